@@ -1,0 +1,6 @@
+pub mod BoolLaws
+pub mod DoubleLaws
+pub mod ListLaws
+pub mod NatLaws
+pub mod RunLaws
+pub mod TableLaws

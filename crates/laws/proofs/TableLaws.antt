@@ -1,0 +1,25 @@
+-- A table's test gives its rule at each entry.
+use mathlib.Core.Bool.{Bool}
+use mathlib.Core.List.{List, [], _∷_}
+use mathlib.Core.Path.{_≡_, _∙_, subst, sym}
+use Prim.Native.Nat.{ℕ, zero, suc, _+_, _<_}
+use native.Mathlib.Nat.{add-zero, zero-add, add-suc, suc-add, le-of-suc-le-suc, not-suc-le-zero}
+use lib.Dec.{T, eqb, eqb→eq}
+use lib.Ieee.Fits.{and-l, and-r}
+use lib.ListN.{length, getD}
+use Rattle.laws.specs.Table.{ruled}
+
+module _ {A : Type 0} (test : ℕ → A → Bool) (default : A) where
+  from : (xs : List A) (i : ℕ) → T (ruled test i xs) → (k : ℕ) → k < length xs → T (test (i + k) (getD xs k default))
+  from [] i t k h = absurd (not-suc-le-zero h)
+  from (x ∷ xs) i t zero h = subst (λ (m : ℕ). T (test m x)) (sym (add-zero i)) (and-l (test i x) (ruled test (suc i) xs) t)
+  from (x ∷ xs) i t (suc k) h =
+      subst (λ (m : ℕ). T (test m (getD xs k default))) (suc-add i k ∙ sym (add-suc i k))
+      (from xs (suc i) (and-r (test i x) (ruled test (suc i) xs) t) k (le-of-suc-le-suc h))
+
+  pub entry : (xs : List A) → T (ruled test 0 xs) → (k : ℕ) → k < length xs → T (test k (getD xs k default))
+  entry xs t k h = subst (λ (m : ℕ). T (test m (getD xs k default))) (zero-add k) (from xs 0 t k h)
+
+-- a table of numbers that has at each index what f gives there
+pub entry-is : (f : ℕ → ℕ) (xs : List ℕ) → T (ruled (λ k x. eqb x (f k)) 0 xs) → (k : ℕ) → k < length xs → getD xs k 0 ≡ f k
+entry-is f xs t k h = eqb→eq (getD xs k 0) (f k) (entry (λ k x. eqb x (f k)) 0 xs t k h)

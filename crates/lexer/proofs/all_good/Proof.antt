@@ -1,0 +1,57 @@
+use mathlib.Core.Path.{_≡_, sym, _∙_}
+use borrow.Author.Tests.{not-true, not-false}
+use Rattle.laws.proofs.RunLaws.{all-end, all-stop, all-step}
+-- `lexer::all_good` meets its contract: what is left decides.
+use Rattle.lexer.specs.Class.{isGood}
+use Rattle.laws.specs.Runs.{all}
+use lib.ListN.{length, drop}
+use Prim.Native.Nat.{_-_}
+use mathlib.Core.Path.{_≡_}
+use borrow.Author.Needs.{needs}
+use Rattle.lexer.proofs.all_good.Statement.{statement}
+use Rattle.lexer.proofs.all_good.Tie as tie
+
+abbrev Inv-loop : tie.InvT-loop
+Inv-loop word i₀ i = all isGood (drop i word) ≡ all isGood word
+
+abbrev μ-loop : tie.MeasureT-loop
+μ-loop word i₀ i = length word - i
+
+loop-holds : tie.Need-loop-holds Inv-loop μ-loop
+loop-holds c = search needs
+
+shared-slice-read-is-good : tie.Need-shared-slice-read-is-good Inv-loop μ-loop
+shared-slice-read-is-good c = search needs
+
+is-good-requires : tie.Need-is-good-requires Inv-loop μ-loop
+is-good-requires c κs = search needs
+
+returns : tie.Need-returns Inv-loop μ-loop
+returns c = sym (all-stop isGood ((c .before .before .before .before .before .before .args) .word .now) ((c .before .before .before .before .loop) .i) 0 ((c .before .before .before .loop-test) .taken) (sym ((c .before .is-good) .ensures) ∙ not-true _ ((c .if1) .taken))) ∙ (c .before .before .before .before .loop) .inv
+
+add-i : tie.Need-add-i Inv-loop μ-loop
+add-i c = search needs
+
+loop-less : tie.Need-loop-less Inv-loop μ-loop
+loop-less c = search needs
+
+loop-again : tie.Need-loop-again Inv-loop μ-loop
+loop-again c = all-step isGood ((c .before .before .before .before .before .before .args) .word .now) ((c .before .before .before .before .loop) .i) 0 ((c .before .before .before .loop-test) .taken) (sym ((c .before .is-good) .ensures) ∙ not-false _ ((c .if1) .left)) ∙ (c .before .before .before .before .loop) .inv
+
+returns-2 : tie.Need-returns-2 Inv-loop μ-loop
+returns-2 c = sym (all-end isGood (c .before .before .before .args .word .now) (c .before .loop .i) (c .loop-test .left)) ∙ c .before .loop .inv
+
+pub all-good-spec : {M : Type 1} → statement M
+all-good-spec =
+    tie.close
+    (tie.spec
+    Inv-loop
+    μ-loop
+    loop-holds
+    shared-slice-read-is-good
+    is-good-requires
+    returns
+    add-i
+    loop-less
+    loop-again
+    returns-2)

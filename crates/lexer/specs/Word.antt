@@ -1,0 +1,20 @@
+-- The words of a text.
+use mathlib.Core.Bool.{cond}
+use Prim.Native.Nat.{ℕ}
+use lib.Dec.{leb}
+use lib.ListN.{length, drop}
+use Rattle.laws.specs.Bytes.{Bytes}
+use Rattle.laws.specs.Runs.{all, run, past}
+use Rattle.lexer.specs.Class.{isBlank, isOther, isGood}
+use Rattle.lexer.specs.declared.Word.{Word}
+
+-- the word at or after a place: blanks are skipped, and "a word is a longest run of other bytes";
+-- a word reader "at or past the end gives an empty word at the text length"
+unfoldable pub wordAt : Bytes → ℕ → Word
+wordAt text at =
+    let place = past isBlank text at in
+    record { place = place; len = run isOther (drop place text) }
+
+-- "2 bad byte in a word", "3 word over 64 bytes"; "at one place, the lowest number"; 0 for a good word
+unfoldable pub wordFault : Bytes → ℕ
+wordFault w = cond (all isGood w) (cond (leb (length w) 64) 0 3) 2

@@ -1,0 +1,380 @@
+// The bytes and words of a text.
+ghost use mathlib.Core.Path.{_≡_};
+ghost use Prim.Native.Nat.{min};
+ghost use Rattle.laws.specs.Bytes.{part};
+ghost use Rattle.laws.specs.Runs.{all, past};
+ghost use Rattle.lexer.specs.Class.{classOf, isBlank, isGood, isOther, isRun};
+ghost use Rattle.lexer.specs.Word.{wordAt, wordFault};
+
+pub const BLANK: u8 = 0;
+
+pub const GOOD: u8 = 1;
+
+pub const BAD: u8 = 2;
+
+// The class of each byte.
+const CLASSES: [u8; 256] = [
+    2,
+    2,
+    2,
+    2,
+    2,
+    2,
+    2,
+    2,
+    2,
+    0, // 9, the first blank
+    0,
+    0,
+    0,
+    0, // 13
+    2,
+    2,
+    2,
+    2,
+    2,
+    2,
+    2,
+    2,
+    2,
+    2,
+    2,
+    2,
+    2,
+    2,
+    2,
+    2,
+    2,
+    2,
+    0, // 32, the space
+    1, // 33, the first good byte
+    1,
+    1,
+    1,
+    1,
+    1,
+    1,
+    1,
+    1,
+    1,
+    1,
+    1,
+    1,
+    1,
+    1,
+    1,
+    1,
+    1,
+    1,
+    1,
+    1,
+    1,
+    1,
+    1,
+    1,
+    1,
+    1,
+    1,
+    1,
+    1,
+    1,
+    1,
+    1,
+    1,
+    1,
+    1,
+    1,
+    1,
+    1,
+    1,
+    1,
+    1,
+    1,
+    1,
+    1,
+    1,
+    1,
+    1,
+    1,
+    1,
+    1,
+    1,
+    1,
+    1,
+    1,
+    1,
+    1,
+    1,
+    1,
+    1,
+    1,
+    1,
+    1,
+    1,
+    1,
+    1,
+    1,
+    1,
+    1,
+    1,
+    1,
+    1,
+    1,
+    1,
+    1,
+    1,
+    1,
+    1,
+    1,
+    1,
+    1,
+    1,
+    1,
+    1,
+    1,
+    1,
+    1,
+    1,
+    1,
+    1,
+    1,
+    1,
+    1,
+    1, // 126, the last good byte
+    2,
+    2,
+    2,
+    2,
+    2,
+    2,
+    2,
+    2,
+    2,
+    2,
+    2,
+    2,
+    2,
+    2,
+    2,
+    2,
+    2,
+    2,
+    2,
+    2,
+    2,
+    2,
+    2,
+    2,
+    2,
+    2,
+    2,
+    2,
+    2,
+    2,
+    2,
+    2,
+    2,
+    2,
+    2,
+    2,
+    2,
+    2,
+    2,
+    2,
+    2,
+    2,
+    2,
+    2,
+    2,
+    2,
+    2,
+    2,
+    2,
+    2,
+    2,
+    2,
+    2,
+    2,
+    2,
+    2,
+    2,
+    2,
+    2,
+    2,
+    2,
+    2,
+    2,
+    2,
+    2,
+    2,
+    2,
+    2,
+    2,
+    2,
+    2,
+    2,
+    2,
+    2,
+    2,
+    2,
+    2,
+    2,
+    2,
+    2,
+    2,
+    2,
+    2,
+    2,
+    2,
+    2,
+    2,
+    2,
+    2,
+    2,
+    2,
+    2,
+    2,
+    2,
+    2,
+    2,
+    2,
+    2,
+    2,
+    2,
+    2,
+    2,
+    2,
+    2,
+    2,
+    2,
+    2,
+    2,
+    2,
+    2,
+    2,
+    2,
+    2,
+    2,
+    2,
+    2,
+    2,
+    2,
+    2,
+    2,
+    2,
+    2,
+    2,
+    2,
+    2,
+    2,
+    2,
+    2,
+    2,
+];
+
+// A word of a text: where it starts and how many bytes it has.
+pub struct Word {
+    pub place: usize,
+    pub len: usize,
+}
+
+pub fn class_of(b: u8) -> u8
+    ensures { λ r. ⌜ r ≡ classOf b ⌝ }
+{
+    CLASSES[b as usize]
+}
+
+pub fn is_blank(b: u8) -> bool
+    ensures { λ r. ⌜ r ≡ isBlank b ⌝ }
+{
+    class_of(b) == BLANK
+}
+
+fn is_good(b: u8) -> bool
+    ensures { λ r. ⌜ r ≡ isGood b ⌝ }
+{
+    class_of(b) == GOOD
+}
+
+// The end of the run of blanks, or of other bytes, that starts at `at`: the first place from there on whose byte is none,
+// or the text's length.
+fn run_end(text: &[u8], at: usize, blanks: bool) -> usize
+    ensures { λ r. ⌜ r ≡ past (isRun blanks) (now (text .entry)) at ⌝ }
+{
+    let mut i = at;
+    while i < text.len() {
+        if is_blank(text[i]) != blanks {
+            return i;
+        }
+        i += 1;
+    }
+    text.len()
+}
+
+// The first place from `at` on that holds no blank, or the text's length.
+pub fn skip_blanks(text: &[u8], at: usize) -> usize
+    ensures { λ r. ⌜ r ≡ past isBlank (now (text .entry)) at ⌝ }
+{
+    run_end(text, at, true)
+}
+
+// The first place from `at` on that holds a blank, or the text's length.
+pub fn word_end(text: &[u8], at: usize) -> usize
+    ensures { λ r. ⌜ r ≡ past isOther (now (text .entry)) at ⌝ }
+{
+    run_end(text, at, false)
+}
+
+// The next word from `at` on; at or past the end an empty word at the text's length.
+pub fn next_word(text: &[u8], at: usize) -> Word
+    ensures { λ r. ⌜ r ≡ wordAt (now (text .entry)) at ⌝ }
+{
+    let place = skip_blanks(text, at);
+    let end = word_end(text, place);
+    Word {
+        place,
+        len: end - place,
+    }
+}
+
+// The `len` bytes from `place` on: those of them that the text has.
+pub fn part(text: &[u8], place: usize, len: usize) -> &[u8]
+    ensures { λ r. ⌜ now r ≡ part (now (text .entry)) place len ⌝ }
+{
+    let start = least(place, text.len());
+    let end = start + least(len, text.len() - start);
+    &text[start..end]
+}
+
+fn least(a: usize, b: usize) -> usize
+    ensures { λ r. ⌜ r ≡ min a b ⌝ }
+{
+    if a < b { a } else { b }
+}
+
+// Whether every byte of a word is good in one.
+fn all_good(word: &[u8]) -> bool
+    ensures { λ r. ⌜ r ≡ all isGood (now (word .entry)) ⌝ }
+{
+    let mut i = 0;
+    while i < word.len() {
+        if !is_good(word[i]) {
+            return false;
+        }
+        i += 1;
+    }
+    true
+}
+
+// The reason for refusing a word by its bytes alone: 2 for a bad byte, 3 for over 64 bytes, else 0.
+pub fn word_fault(word: &[u8]) -> u8
+    ensures { λ r. ⌜ r ≡ wordFault (now (word .entry)) ⌝ }
+{
+    if !all_good(word) {
+        return 2;
+    }
+    if 64 < word.len() {
+        return 3;
+    }
+    0
+}

@@ -1,0 +1,5 @@
+pub mod DigitLaws
+pub mod FiniteLaws
+pub mod NumeralLaws
+pub mod PartLaws
+pub mod TenLaws

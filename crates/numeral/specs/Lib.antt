@@ -1,0 +1,5 @@
+pub mod Digits
+pub mod Count
+pub mod Saturated
+pub mod Parts
+pub mod Numeral

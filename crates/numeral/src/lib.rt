@@ -1,0 +1,101 @@
+// Counts and numerals.
+mod digits;
+mod double;
+mod parts;
+
+use digits::Digits;
+use parts::Exponent;
+use parts::Mantissa;
+ghost use mathlib.Core.Path.{_≡_};
+ghost use Prim.Native.Nat.{_^_, _<_};
+ghost use Rattle.laws.specs.Bytes.{part};
+ghost use Rattle.numeral.specs.Count.{counted, countOf};
+ghost use Rattle.numeral.specs.Numeral.{answerOf, numeralOf, reason};
+ghost use Rattle.numeral.specs.Parts.{exponentIn, poweredBy};
+
+pub enum Count {
+    Value(u32),
+    Malformed,
+}
+
+pub enum Numeral {
+    Value(f64),
+    Malformed,
+    TooLarge,
+}
+
+// Document 01's number of an answer: 0 for a value, else the reason for refusing.
+pub fn reason(n: Numeral) -> u32
+    ensures { λ r. ⌜ r ≡ reason (answerOf n) ⌝ }
+{
+    match n {
+        Numeral::Value(_) => 0,
+        Numeral::Malformed => 14,
+        Numeral::TooLarge => 15,
+    }
+}
+
+// The count that a word is.
+pub fn count_of(word: &[u8]) -> Count
+    ensures { λ r. ⌜ counted r ≡ countOf (now (word .entry)) ⌝ }
+{
+    if word.len() == 0 {
+        return Count::Malformed;
+    }
+    if 5 < word.len() {
+        return Count::Malformed;
+    }
+    match digits::digits_from(0, word) {
+        Digits::Malformed => Count::Malformed,
+        Digits::Value(n) => Count::Value(n as u32),
+    }
+}
+
+// The count in a part of a text; of a part that runs past the text's end, in what is there.
+pub fn count_at(text: &[u8], place: usize, len: usize) -> Count
+    ensures { λ r. ⌜ counted r ≡ countOf (part (now (text .entry)) place len) ⌝ }
+{
+    count_of(lexer::part(text, place, len))
+}
+
+// The numeral that a word is.
+pub fn numeral_of(word: &[u8]) -> Numeral
+    ensures { λ r. ⌜ answerOf r ≡ numeralOf (now (word .entry)) ⌝ }
+{
+    let body = parts::unsigned(word);
+    let mark = parts::index_of(body, b'e', b'E');
+    match parts::read_mantissa(&body[..mark]) {
+        Mantissa::Malformed => Numeral::Malformed,
+        Mantissa::Value { coefficient, after } => {
+            if mark < body.len() {
+                powered(
+                    parts::is_negative(word),
+                    coefficient,
+                    after,
+                    &body[mark + 1..],
+                )
+            } else {
+                double::number(parts::is_negative(word), coefficient, 0, after)
+            }
+        }
+    }
+}
+
+// A mantissa's value with the exponent that `word` is.
+fn powered(negative: bool, c: u64, after: u64, word: &[u8]) -> Numeral
+    requires { ⌜ after < 2 ^ 63 ⌝ }
+    ensures { λ r. ⌜ answerOf r ≡ poweredBy negative c after (exponentIn (now (word .entry))) ⌝ }
+{
+    match parts::read_exponent(word) {
+        Exponent::Malformed => Numeral::Malformed,
+        Exponent::Up(n) => double::number(negative, c, n, after),
+        Exponent::Down(n) => double::number(negative, c, 0, after + n),
+    }
+}
+
+// The numeral in a part of a text; of a part that runs past the text's end, in what is there.
+pub fn numeral_at(text: &[u8], place: usize, len: usize) -> Numeral
+    ensures { λ r. ⌜ answerOf r ≡ numeralOf (part (now (text .entry)) place len) ⌝ }
+{
+    numeral_of(lexer::part(text, place, len))
+}

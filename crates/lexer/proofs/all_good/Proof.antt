@@ -27,7 +27,7 @@ is-good-requires : tie.Need-is-good-requires Inv-loop μ-loop
 is-good-requires c κs = search needs
 
 returns : tie.Need-returns Inv-loop μ-loop
-returns c = sym (all-stop isGood ((c .before .before .before .before .before .before .args) .word .now) ((c .before .before .before .before .loop) .i) 0 ((c .before .before .before .loop-test) .taken) (sym ((c .before .is-good) .ensures) ∙ not-true _ ((c .if1) .taken))) ∙ (c .before .before .before .before .loop) .inv
+returns c = sym (all-stop isGood (c .before .before .before .before .before .before .args .word .now) (c .before .before .before .before .loop .i) 0 (c .before .before .before .loop-test .taken) (sym (c .before .is-good .ensures) ∙ not-true _ (c .if1 .taken))) ∙ c .before .before .before .before .loop .inv
 
 add-i : tie.Need-add-i Inv-loop μ-loop
 add-i c = search needs
@@ -36,7 +36,7 @@ loop-less : tie.Need-loop-less Inv-loop μ-loop
 loop-less c = search needs
 
 loop-again : tie.Need-loop-again Inv-loop μ-loop
-loop-again c = all-step isGood ((c .before .before .before .before .before .before .args) .word .now) ((c .before .before .before .before .loop) .i) 0 ((c .before .before .before .loop-test) .taken) (sym ((c .before .is-good) .ensures) ∙ not-false _ ((c .if1) .left)) ∙ (c .before .before .before .before .loop) .inv
+loop-again c = all-step isGood (c .before .before .before .before .before .before .args .word .now) (c .before .before .before .before .loop .i) 0 (c .before .before .before .loop-test .taken) (sym (c .before .is-good .ensures) ∙ not-false _ (c .if1 .left)) ∙ c .before .before .before .before .loop .inv
 
 returns-2 : tie.Need-returns-2 Inv-loop μ-loop
 returns-2 c = sym (all-end isGood (c .before .before .before .args .word .now) (c .before .loop .i) (c .loop-test .left)) ∙ c .before .loop .inv

@@ -26,7 +26,7 @@ part-result-end : tie.Need-part-result-end
 part-result-end c = search needs
 
 returns : tie.Need-returns
-returns c = cut-part _ _ _ _ _ ((c .before .before .least) .ensures) ((c .before .least2) .ensures)
+returns c = cut-part _ _ _ _ _ (c .before .before .least .ensures) (c .before .least2 .ensures)
 
 pub part-spec : {M : Type 1} → statement M
 part-spec =

@@ -28,7 +28,7 @@ is-blank-requires : tie.Need-is-blank-requires Inv-loop μ-loop
 is-blank-requires c κs = search needs
 
 returns : tie.Need-returns Inv-loop μ-loop
-returns c = sym (past-stop (isRun ((c .before .before .before .before .before .before .args) .blanks)) ((c .before .before .before .before .before .before .args) .text .now) ((c .before .before .before .before .loop) .i) 0 ((c .before .before .before .loop-test) .taken) (ends-run ((c .before .before .before .before .before .before .args) .blanks) _ (sym ((c .before .is-blank) .ensures) ∙ differ _ ((c .before .before .before .before .before .before .args) .blanks) ((c .if1) .taken)))) ∙ (c .before .before .before .before .loop) .inv
+returns c = sym (past-stop (isRun (c .before .before .before .before .before .before .args .blanks)) (c .before .before .before .before .before .before .args .text .now) (c .before .before .before .before .loop .i) 0 (c .before .before .before .loop-test .taken) (ends-run (c .before .before .before .before .before .before .args .blanks) _ (sym (c .before .is-blank .ensures) ∙ differ _ (c .before .before .before .before .before .before .args .blanks) (c .if1 .taken)))) ∙ c .before .before .before .before .loop .inv
 
 add-i : tie.Need-add-i Inv-loop μ-loop
 add-i c = search needs
@@ -37,7 +37,7 @@ loop-less : tie.Need-loop-less Inv-loop μ-loop
 loop-less c = search needs
 
 loop-again : tie.Need-loop-again Inv-loop μ-loop
-loop-again c = past-step (isRun ((c .before .before .before .before .before .before .args) .blanks)) ((c .before .before .before .before .before .before .args) .text .now) ((c .before .before .before .before .loop) .i) 0 ((c .before .before .before .loop-test) .taken) (in-run ((c .before .before .before .before .before .before .args) .blanks) _ (sym ((c .before .is-blank) .ensures) ∙ agree _ ((c .before .before .before .before .before .before .args) .blanks) ((c .if1) .left))) ∙ (c .before .before .before .before .loop) .inv
+loop-again c = past-step (isRun (c .before .before .before .before .before .before .args .blanks)) (c .before .before .before .before .before .before .args .text .now) (c .before .before .before .before .loop .i) 0 (c .before .before .before .loop-test .taken) (in-run (c .before .before .before .before .before .before .args .blanks) _ (sym (c .before .is-blank .ensures) ∙ agree _ (c .before .before .before .before .before .before .args .blanks) (c .if1 .left))) ∙ c .before .before .before .before .loop .inv
 
 returns-2 : tie.Need-returns-2 Inv-loop μ-loop
 returns-2 c = sym (past-end (isRun (c .before .before .before .args .blanks)) (c .before .before .before .args .text .now) (c .before .loop .i) (c .loop-test .left)) ∙ c .before .loop .inv

@@ -12,7 +12,7 @@ count-of-requires : tie.Need-count-of-requires
 count-of-requires c κs = search needs
 
 returns : tie.Need-returns
-returns c = (c .count-of) .ensures ∙ ap countOf ((c .before .part) .ensures)
+returns c = c .count-of .ensures ∙ ap countOf (c .before .part .ensures)
 
 pub count-at-spec : {M : Type 1} → statement M
 count-at-spec = tie.close (tie.spec part-requires count-of-requires returns)

@@ -9,10 +9,10 @@ use Rattle.numeral.proofs.count_of.Statement.{statement}
 use Rattle.numeral.proofs.count_of.Tie as tie
 
 returns : tie.Need-returns
-returns c = count-none _ ((c .if1) .taken)
+returns c = count-none _ (c .if1 .taken)
 
 returns-2 : tie.Need-returns-2
-returns-2 c = count-long _ ((c .if2) .taken)
+returns-2 c = count-long _ (c .if2 .taken)
 
 digits-from-requires : tie.Need-digits-from-requires
 digits-from-requires c κs = search needs
@@ -24,13 +24,13 @@ enum-known-n : tie.Need-enum-known-n
 enum-known-n c = search needs
 
 cast-t7 : tie.Need-cast-t7
-cast-t7 c = omega (arith, short-value _ 5 ((c .before .before .before .before .before .before .before .args) .word .now) ((c .before .before .before .before .if2) .left) (omega arith) (sym (ap read ((c .before .n) .given .1)) ∙ (c .before .before .before .digits-from) .ensures) .1)
+cast-t7 c = omega (arith, short-value _ 5 (c .before .before .before .before .before .before .before .args .word .now) (c .before .before .before .before .if2 .left) (omega arith) (sym (ap read (c .before .n .given .1)) ∙ c .before .before .before .digits-from .ensures) .1)
 
 returns-3 : tie.Need-returns-3
-returns-3 c = count-bad _ (sym (ap read ((c .enum-told) .given .1)) ∙ (c .before .before .digits-from) .ensures)
+returns-3 c = count-bad _ (sym (ap read (c .enum-told .given .1)) ∙ c .before .before .digits-from .ensures)
 
 returns-4 : tie.Need-returns-4
-returns-4 c = count-good _ ((c .before .before .before .before .before .if1) .left) ((c .before .before .before .before .if2) .left) _ (sym (ap read ((c .before .n) .given .1)) ∙ (c .before .before .before .digits-from) .ensures)
+returns-4 c = count-good _ (c .before .before .before .before .before .if1 .left) (c .before .before .before .before .if2 .left) _ (sym (ap read (c .before .n .given .1)) ∙ c .before .before .before .digits-from .ensures)
 
 pub count-of-spec : {M : Type 1} → statement M
 count-of-spec =

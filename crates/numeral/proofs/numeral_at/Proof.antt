@@ -12,7 +12,7 @@ numeral-of-requires : tie.Need-numeral-of-requires
 numeral-of-requires c κs = search needs
 
 returns : tie.Need-returns
-returns c = (c .numeral-of) .ensures ∙ ap numeralOf ((c .before .part) .ensures)
+returns c = c .numeral-of .ensures ∙ ap numeralOf (c .before .part .ensures)
 
 pub numeral-at-spec : {M : Type 1} → statement M
 numeral-at-spec = tie.close (tie.spec part-requires numeral-of-requires returns)

@@ -20,7 +20,7 @@ index-of-requires : tie.Need-index-of-requires
 index-of-requires c κs = search needs
 
 slice-aggregate-read-mantissa : tie.Need-slice-aggregate-read-mantissa
-slice-aggregate-read-mantissa c = omega (arith, length-take ((c .before .index-of) .result) ((c .before .before .unsigned) .result .now), index-most (either 101 69) ((c .before .before .unsigned) .result .now))
+slice-aggregate-read-mantissa c = omega (arith, length-take (c .before .index-of .result) (c .before .before .unsigned .result .now), index-most (either 101 69) (c .before .before .unsigned .result .now))
 
 read-mantissa-requires : tie.Need-read-mantissa-requires
 read-mantissa-requires c κs = search needs
@@ -47,7 +47,7 @@ part-powered-end : tie.Need-part-powered-end
 part-powered-end c = search needs
 
 powered-requires : tie.Need-powered-requires
-powered-requires c κs = omega (arith, after-most _ _ _ (sym (ap readMantissa ((c .before .before .before .before .coefficient) .given .1)) ∙ (c .before .before .before .before .before .before .read-mantissa) .ensures), length-take ((c .before .before .before .before .before .before .before .before .index-of) .result) ((c .before .before .before .before .before .before .before .before .before .unsigned) .result .now), ap length ((c .before .before .before .before .before .before .before .before .before .unsigned) .ensures), unsigned-most ((c .before .before .before .before .before .before .before .before .before .before .before .args) .word .now), (c .before .before .before .before .before .before .before .before .before .before .before) .good .0)
+powered-requires c κs = omega (arith, after-most _ _ _ (sym (ap readMantissa (c .before .before .before .before .coefficient .given .1)) ∙ c .before .before .before .before .before .before .read-mantissa .ensures), length-take (c .before .before .before .before .before .before .before .before .index-of .result) (c .before .before .before .before .before .before .before .before .before .unsigned .result .now), ap length (c .before .before .before .before .before .before .before .before .before .unsigned .ensures), unsigned-most (c .before .before .before .before .before .before .before .before .before .before .before .args .word .now), c .before .before .before .before .before .before .before .before .before .before .before .good .0)
 
 is-negative-requires-2 : tie.Need-is-negative-requires-2
 is-negative-requires-2 c κs = search needs
@@ -56,13 +56,13 @@ number-requires : tie.Need-number-requires
 number-requires c κs = search needs
 
 returns : tie.Need-returns
-returns c = numeral-bad _ _ _ ((c .before .before .before .before .before .unsigned) .ensures) ((c .before .before .before .before .index-of) .ensures) (sym (ap readMantissa ((c .enum-told) .given .1)) ∙ (c .before .before .read-mantissa) .ensures)
+returns c = numeral-bad _ _ _ (c .before .before .before .before .before .unsigned .ensures) (c .before .before .before .before .index-of .ensures) (sym (ap readMantissa (c .enum-told .given .1)) ∙ c .before .before .read-mantissa .ensures)
 
 returns-2 : tie.Need-returns-2
-returns-2 c = (c .powered) .ensures ∙ (λ i. poweredBy ((c .before .before .is-negative) .ensures i) ((c .before .before .before .before .before .coefficient) .given .0 .0) ((c .before .before .before .before .before .coefficient) .given .0 .1 .0) (exponentIn (rest-of ((c .before .before .before .before .before .before .before .before .before .index-of) .result + 1) ((c .before .before .before .before .before .before .before .before .before .before .unsigned) .result .now) i))) ∙ numeral-powered _ _ _ ((c .before .before .before .before .before .before .before .before .before .before .unsigned) .ensures) ((c .before .before .before .before .before .before .before .before .before .index-of) .ensures) _ _ (sym (ap readMantissa ((c .before .before .before .before .before .coefficient) .given .1)) ∙ (c .before .before .before .before .before .before .before .read-mantissa) .ensures) ((c .before .before .before .if1) .taken)
+returns-2 c = c .powered .ensures ∙ (λ i. poweredBy (c .before .before .is-negative .ensures i) (c .before .before .before .before .before .coefficient .given .0 .0) (c .before .before .before .before .before .coefficient .given .0 .1 .0) (exponentIn (rest-of (c .before .before .before .before .before .before .before .before .before .index-of .result + 1) (c .before .before .before .before .before .before .before .before .before .before .unsigned .result .now) i))) ∙ numeral-powered _ _ _ (c .before .before .before .before .before .before .before .before .before .before .unsigned .ensures) (c .before .before .before .before .before .before .before .before .before .index-of .ensures) _ _ (sym (ap readMantissa (c .before .before .before .before .before .coefficient .given .1)) ∙ c .before .before .before .before .before .before .before .read-mantissa .ensures) (c .before .before .before .if1 .taken)
 
 returns-3 : tie.Need-returns-3
-returns-3 c = (c .number) .ensures ∙ ap (λ (s : Bool). numberOf s ((c .before .before .before .before .coefficient) .given .0 .0) 0 ((c .before .before .before .before .coefficient) .given .0 .1 .0)) ((c .before .is-negative2) .ensures) ∙ numeral-plain _ _ _ ((c .before .before .before .before .before .before .before .before .before .unsigned) .ensures) ((c .before .before .before .before .before .before .before .before .index-of) .ensures) _ _ (sym (ap readMantissa ((c .before .before .before .before .coefficient) .given .1)) ∙ (c .before .before .before .before .before .before .read-mantissa) .ensures) ((c .before .before .if1) .left)
+returns-3 c = c .number .ensures ∙ ap (λ (s : Bool). numberOf s (c .before .before .before .before .coefficient .given .0 .0) 0 (c .before .before .before .before .coefficient .given .0 .1 .0)) (c .before .is-negative2 .ensures) ∙ numeral-plain _ _ _ (c .before .before .before .before .before .before .before .before .before .unsigned .ensures) (c .before .before .before .before .before .before .before .before .index-of .ensures) _ _ (sym (ap readMantissa (c .before .before .before .before .coefficient .given .1)) ∙ c .before .before .before .before .before .before .read-mantissa .ensures) (c .before .before .if1 .left)
 
 pub numeral-of-spec : {M : Type 1} → statement M
 numeral-of-spec =

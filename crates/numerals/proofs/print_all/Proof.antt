@@ -28,13 +28,13 @@ print-numeral-requires : tie.Need-print-numeral-requires Inv-loop μ-loop
 print-numeral-requires c κs = search needs
 
 add-at : tie.Need-add-at Inv-loop μ-loop
-add-at c = omega (arith, place-least ((c .before .before .before .before .before .before .before .args) .text .now) ((c .before .before .before .before .before .loop) .at), end-most ((c .before .before .before .before .before .before .before .args) .text .now) ((c .before .before .before .before .before .loop) .at), ap (λ (w : Word). w .place) ((c .before .before .before .before .next-word) .ensures), ap (λ (w : Word). w .len) ((c .before .before .before .before .next-word) .ensures))
+add-at c = omega (arith, place-least (c .before .before .before .before .before .before .before .args .text .now) (c .before .before .before .before .before .loop .at), end-most (c .before .before .before .before .before .before .before .args .text .now) (c .before .before .before .before .before .loop .at), ap (λ (w : Word). w .place) (c .before .before .before .before .next-word .ensures), ap (λ (w : Word). w .len) (c .before .before .before .before .next-word .ensures))
 
 loop-less : tie.Need-loop-less Inv-loop μ-loop
-loop-less c = omega (arith, place-least ((c .before .before .before .before .before .before .before .args) .text .now) ((c .before .before .before .before .before .loop) .at), end-most ((c .before .before .before .before .before .before .before .args) .text .now) ((c .before .before .before .before .before .loop) .at), ap (λ (w : Word). w .place) ((c .before .before .before .before .next-word) .ensures), ap (λ (w : Word). w .len) ((c .before .before .before .before .next-word) .ensures))
+loop-less c = omega (arith, place-least (c .before .before .before .before .before .before .before .args .text .now) (c .before .before .before .before .before .loop .at), end-most (c .before .before .before .before .before .before .before .args .text .now) (c .before .before .before .before .before .loop .at), ap (λ (w : Word). w .place) (c .before .before .before .before .next-word .ensures), ap (λ (w : Word). w .len) (c .before .before .before .before .next-word .ensures))
 
 loop-again : tie.Need-loop-again Inv-loop μ-loop
-loop-again c = omega (arith, place-least ((c .before .before .before .before .before .before .before .args) .text .now) ((c .before .before .before .before .before .loop) .at), end-most ((c .before .before .before .before .before .before .before .args) .text .now) ((c .before .before .before .before .before .loop) .at), ap (λ (w : Word). w .place) ((c .before .before .before .before .next-word) .ensures), ap (λ (w : Word). w .len) ((c .before .before .before .before .next-word) .ensures))
+loop-again c = omega (arith, place-least (c .before .before .before .before .before .before .before .args .text .now) (c .before .before .before .before .before .loop .at), end-most (c .before .before .before .before .before .before .before .args .text .now) (c .before .before .before .before .before .loop .at), ap (λ (w : Word). w .place) (c .before .before .before .before .next-word .ensures), ap (λ (w : Word). w .len) (c .before .before .before .before .next-word .ensures))
 
 pub print-all-spec : {M : Type 1} → statement M
 print-all-spec =

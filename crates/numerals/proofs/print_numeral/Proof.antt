@@ -28,7 +28,7 @@ write-all-requires : tie.Need-write-all-requires
 write-all-requires c κs = search needs
 
 float-to-bits-print-hex : tie.Need-float-to-bits-print-hex
-float-to-bits-print-hex c = numeral-no-nan _ _ (sym (ap answerOf ((c .before .before .before .n) .given .1)) ∙ (c .before .before .before .before .before .before .before .numeral-at) .ensures)
+float-to-bits-print-hex c = numeral-no-nan _ _ (sym (ap answerOf (c .before .before .before .n .given .1)) ∙ c .before .before .before .before .before .before .before .numeral-at .ensures)
 
 print-hex-requires : tie.Need-print-hex-requires
 print-hex-requires c κs = search needs

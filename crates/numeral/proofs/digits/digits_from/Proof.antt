@@ -26,10 +26,10 @@ is-digit-requires : tie.Need-is-digit-requires Inv-loop μ-loop
 is-digit-requires c κs = search needs
 
 returns : tie.Need-returns Inv-loop μ-loop
-returns c = read-stop ((c .before .before .before .before .loop) .m) ((c .before .before .before .before .before .before .args) .word .now) ((c .before .before .before .before .loop) .i) ((c .before .before .before .loop-test) .taken) (sym ((c .before .is-digit) .ensures) ∙ not-true _ ((c .if1) .taken)) ∙ (c .before .before .before .before .loop) .inv .1
+returns c = read-stop (c .before .before .before .before .loop .m) (c .before .before .before .before .before .before .args .word .now) (c .before .before .before .before .loop .i) (c .before .before .before .loop-test .taken) (sym (c .before .is-digit .ensures) ∙ not-true _ (c .if1 .taken)) ∙ c .before .before .before .before .loop .inv .1
 
 push-requires : tie.Need-push-requires Inv-loop μ-loop
-push-requires c κs = ((c .before .before .before .before .loop) .inv .0, sym ((c .before .is-digit) .ensures) ∙ not-false _ ((c .if1) .left))
+push-requires c κs = (c .before .before .before .before .loop .inv .0, sym (c .before .is-digit .ensures) ∙ not-false _ (c .if1 .left))
 
 add-i : tie.Need-add-i Inv-loop μ-loop
 add-i c = search needs
@@ -38,10 +38,10 @@ loop-less : tie.Need-loop-less Inv-loop μ-loop
 loop-less c = search needs
 
 loop-again : tie.Need-loop-again Inv-loop μ-loop
-loop-again c = (omega (arith, (c .push) .ensures), read-step ((c .before .before .before .before .before .loop) .m) ((c .before .before .before .before .before .before .before .args) .word .now) ((c .before .before .before .before .before .loop) .i) ((c .before .before .before .before .loop-test) .taken) _ ((c .push) .ensures) (sym ((c .before .before .is-digit) .ensures) ∙ not-false _ ((c .before .if1) .left)) ∙ (c .before .before .before .before .before .loop) .inv .1)
+loop-again c = (omega (arith, c .push .ensures), read-step (c .before .before .before .before .before .loop .m) (c .before .before .before .before .before .before .before .args .word .now) (c .before .before .before .before .before .loop .i) (c .before .before .before .before .loop-test .taken) _ (c .push .ensures) (sym (c .before .before .is-digit .ensures) ∙ not-false _ (c .before .if1 .left)) ∙ c .before .before .before .before .before .loop .inv .1)
 
 returns-2 : tie.Need-returns-2 Inv-loop μ-loop
-returns-2 c = read-end ((c .before .loop) .m) ((c .before .before .before .args) .word .now) ((c .before .loop) .i) ((c .before .loop) .inv .0) ((c .loop-test) .left) ∙ (c .before .loop) .inv .1
+returns-2 c = read-end (c .before .loop .m) (c .before .before .before .args .word .now) (c .before .loop .i) (c .before .loop .inv .0) (c .loop-test .left) ∙ c .before .loop .inv .1
 
 pub digits-from-spec : {M : Type 1} → statement M
 digits-from-spec =

@@ -12,7 +12,7 @@ wide-requires : tie.Need-wide-requires
 wide-requires c κs = search needs
 
 sub-m : tie.Need-sub-m
-sub-m c = omega (arith, (c .wide) .ensures, digit-low ((c .before .args) .b) ((c .before .pre) .1))
+sub-m c = omega (arith, c .wide .ensures, digit-low (c .before .args .b) (c .before .pre .1))
 
 add-m : tie.Need-add-m
 add-m c = search needs

@@ -41,7 +41,7 @@ array-read-result c = search needs
 
 returns : tie.Need-returns
 unfolding tens
-returns c = holds ((c .args) .k) (omega arith)
+returns c = holds (c .args .k) (omega arith)
 
 pub ten-spec : {M : Type 1} → statement M
 ten-spec = tie.close (tie.spec mul-result array-read-result returns)

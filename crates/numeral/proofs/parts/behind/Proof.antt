@@ -17,7 +17,7 @@ part-result-end : tie.Need-part-result-end
 part-result-end c = search needs
 
 returns : tie.Need-returns
-returns c = behind-there ((c .before .before .args) .word .now) ((c .before .before .args) .at)
+returns c = behind-there (c .before .before .args .word .now) (c .before .before .args .at)
 
 sub-result-2 : tie.Need-sub-result-2
 sub-result-2 c = search needs
@@ -29,7 +29,7 @@ part-result-end-2 : tie.Need-part-result-end-2
 part-result-end-2 c = search needs
 
 returns-2 : tie.Need-returns-2
-returns-2 c = behind-none ((c .before .before .args) .word .now) ((c .before .before .args) .at) ((c .before .if1) .left)
+returns-2 c = behind-none (c .before .before .args .word .now) (c .before .before .args .at) (c .before .if1 .left)
 
 pub behind-spec : {M : Type 1} → statement M
 behind-spec =

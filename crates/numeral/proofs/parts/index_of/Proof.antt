@@ -27,7 +27,7 @@ is-either-requires : tie.Need-is-either-requires Inv-loop μ-loop
 is-either-requires c κs = search needs
 
 returns : tie.Need-returns Inv-loop μ-loop
-returns c = sym (past-stop (λ b. not (either ((c .before .before .before .before .before .before .args) .x) ((c .before .before .before .before .before .before .args) .y) b)) ((c .before .before .before .before .before .before .args) .word .now) ((c .before .before .before .before .loop) .i) 0 ((c .before .before .before .loop-test) .taken) (ap not (sym ((c .before .is-either) .ensures) ∙ (c .if1) .taken))) ∙ (c .before .before .before .before .loop) .inv ∙ index-past _ _
+returns c = sym (past-stop (λ b. not (either (c .before .before .before .before .before .before .args .x) (c .before .before .before .before .before .before .args .y) b)) (c .before .before .before .before .before .before .args .word .now) (c .before .before .before .before .loop .i) 0 (c .before .before .before .loop-test .taken) (ap not (sym (c .before .is-either .ensures) ∙ c .if1 .taken))) ∙ c .before .before .before .before .loop .inv ∙ index-past _ _
 
 add-i : tie.Need-add-i Inv-loop μ-loop
 add-i c = search needs
@@ -36,10 +36,10 @@ loop-less : tie.Need-loop-less Inv-loop μ-loop
 loop-less c = search needs
 
 loop-again : tie.Need-loop-again Inv-loop μ-loop
-loop-again c = past-step (λ b. not (either ((c .before .before .before .before .before .before .args) .x) ((c .before .before .before .before .before .before .args) .y) b)) ((c .before .before .before .before .before .before .args) .word .now) ((c .before .before .before .before .loop) .i) 0 ((c .before .before .before .loop-test) .taken) (ap not (sym ((c .before .is-either) .ensures) ∙ (c .if1) .left)) ∙ (c .before .before .before .before .loop) .inv
+loop-again c = past-step (λ b. not (either (c .before .before .before .before .before .before .args .x) (c .before .before .before .before .before .before .args .y) b)) (c .before .before .before .before .before .before .args .word .now) (c .before .before .before .before .loop .i) 0 (c .before .before .before .loop-test .taken) (ap not (sym (c .before .is-either .ensures) ∙ c .if1 .left)) ∙ c .before .before .before .before .loop .inv
 
 returns-2 : tie.Need-returns-2 Inv-loop μ-loop
-returns-2 c = sym (past-end (λ b. not (either ((c .before .before .before .args) .x) ((c .before .before .before .args) .y) b)) ((c .before .before .before .args) .word .now) ((c .before .loop) .i) ((c .loop-test) .left)) ∙ (c .before .loop) .inv ∙ index-past _ _
+returns-2 c = sym (past-end (λ b. not (either (c .before .before .before .args .x) (c .before .before .before .args .y) b)) (c .before .before .before .args .word .now) (c .before .loop .i) (c .loop-test .left)) ∙ c .before .loop .inv ∙ index-past _ _
 
 pub index-of-spec : {M : Type 1} → statement M
 index-of-spec =

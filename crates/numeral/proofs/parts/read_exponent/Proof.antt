@@ -10,10 +10,10 @@ unsigned-requires : tie.Need-unsigned-requires
 unsigned-requires c κs = search needs
 
 returns : tie.Need-returns
-returns c = exponent-none _ _ ((c .before .unsigned) .ensures) ((c .if1) .taken)
+returns c = exponent-none _ _ (c .before .unsigned .ensures) (c .if1 .taken)
 
 returns-2 : tie.Need-returns-2
-returns-2 c = exponent-long _ _ ((c .before .before .unsigned) .ensures) ((c .if2) .taken)
+returns-2 c = exponent-long _ _ (c .before .before .unsigned .ensures) (c .if2 .taken)
 
 digits-from-requires : tie.Need-digits-from-requires
 digits-from-requires c κs = search needs
@@ -28,13 +28,13 @@ is-negative-requires : tie.Need-is-negative-requires
 is-negative-requires c κs = search needs
 
 returns-3 : tie.Need-returns-3
-returns-3 c = exponent-bad _ _ ((c .before .before .before .before .before .unsigned) .ensures) (sym (ap read ((c .enum-told) .given .1)) ∙ (c .before .before .digits-from) .ensures)
+returns-3 c = exponent-bad _ _ (c .before .before .before .before .before .unsigned .ensures) (sym (ap read (c .enum-told .given .1)) ∙ c .before .before .digits-from .ensures)
 
 returns-4 : tie.Need-returns-4
-returns-4 c = exponent-down _ _ ((c .before .before .before .before .before .before .before .before .unsigned) .ensures) ((c .before .before .before .before .before .before .before .if1) .left) ((c .before .before .before .before .before .before .if2) .left) _ (sym (ap read ((c .before .before .before .n) .given .1)) ∙ (c .before .before .before .before .before .digits-from) .ensures) (sym ((c .if3) .taken) ∙ (c .before .is-negative) .ensures)
+returns-4 c = exponent-down _ _ (c .before .before .before .before .before .before .before .before .unsigned .ensures) (c .before .before .before .before .before .before .before .if1 .left) (c .before .before .before .before .before .before .if2 .left) _ (sym (ap read (c .before .before .before .n .given .1)) ∙ c .before .before .before .before .before .digits-from .ensures) (sym (c .if3 .taken) ∙ c .before .is-negative .ensures)
 
 returns-5 : tie.Need-returns-5
-returns-5 c = exponent-up _ _ ((c .before .before .before .before .before .before .before .before .unsigned) .ensures) ((c .before .before .before .before .before .before .before .if1) .left) ((c .before .before .before .before .before .before .if2) .left) _ (sym (ap read ((c .before .before .before .n) .given .1)) ∙ (c .before .before .before .before .before .digits-from) .ensures) (sym ((c .if3) .left) ∙ (c .before .is-negative) .ensures)
+returns-5 c = exponent-up _ _ (c .before .before .before .before .before .before .before .before .unsigned .ensures) (c .before .before .before .before .before .before .before .if1 .left) (c .before .before .before .before .before .before .if2 .left) _ (sym (ap read (c .before .before .before .n .given .1)) ∙ c .before .before .before .before .before .digits-from .ensures) (sym (c .if3 .left) ∙ c .before .is-negative .ensures)
 
 pub read-exponent-spec : {M : Type 1} → statement M
 read-exponent-spec =

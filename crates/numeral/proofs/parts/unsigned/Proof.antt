@@ -6,7 +6,7 @@ use Rattle.numeral.proofs.parts.unsigned.Statement.{statement}
 use Rattle.numeral.proofs.parts.unsigned.Tie as tie
 
 returns : tie.Need-returns
-returns c = unsigned-none _ ((c .if1) .taken)
+returns c = unsigned-none _ (c .if1 .taken)
 
 shared-slice-read-is-sign : tie.Need-shared-slice-read-is-sign
 shared-slice-read-is-sign c = search needs
@@ -24,10 +24,10 @@ part-result-end : tie.Need-part-result-end
 part-result-end c = search needs
 
 returns-2 : tie.Need-returns-2
-returns-2 c = unsigned-sign _ ((c .before .before .before .before .if1) .left) (sym ((c .before .before .is-sign) .ensures) ∙ (c .before .if2) .taken)
+returns-2 c = unsigned-sign _ (c .before .before .before .before .if1 .left) (sym (c .before .before .is-sign .ensures) ∙ c .before .if2 .taken)
 
 returns-3 : tie.Need-returns-3
-returns-3 c = unsigned-plain _ ((c .before .before .before .if1) .left) (sym ((c .before .is-sign) .ensures) ∙ (c .if2) .left)
+returns-3 c = unsigned-plain _ (c .before .before .before .if1 .left) (sym (c .before .is-sign .ensures) ∙ c .if2 .left)
 
 pub unsigned-spec : {M : Type 1} → statement M
 unsigned-spec =

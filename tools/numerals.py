@@ -48,6 +48,11 @@ def answer(word):
     return "0 %016x" % (bits | (1 << 63 if sign == b"-" else 0))
 
 
+def value(bits):
+    """The double of a pattern, as Python has it."""
+    return struct.unpack(">d", bits.to_bytes(8, "big"))[0]
+
+
 def halves():
     """Numerals that lie halfway between two doubles: c * 5 ^ k has 54 binary digits, the last of them 1."""
     made = []
@@ -92,10 +97,11 @@ def words():
     return made
 
 
-if sys.argv[1:] == ["words"]:
-    print("\n".join(words()))
-elif sys.argv[1:] == ["answers"]:
-    for line in sys.stdin.buffer.read().split():
-        print(answer(line))
-else:
-    sys.exit(__doc__)
+if __name__ == "__main__":
+    if sys.argv[1:] == ["words"]:
+        print("\n".join(words()))
+    elif sys.argv[1:] == ["answers"]:
+        for line in sys.stdin.buffer.read().split():
+            print(answer(line))
+    else:
+        sys.exit(__doc__)

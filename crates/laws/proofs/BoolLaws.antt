@@ -1,5 +1,5 @@
 -- Tests that came out true or false, and what that says.
-use mathlib.Core.Bool.{Bool, true, false, not, Bool·beq, _&&_, false≢true}
+use mathlib.Core.Bool.{Bool, true, false, not, Bool·beq, _&&_, _||_, cond, false≢true}
 use mathlib.Core.Path.{_≡_, refl, sym}
 
 -- the code's `a != b` on two bools
@@ -22,3 +22,16 @@ and-left false b e = e
 pub and-right : (a b : Bool) → (a && b) ≡ true → b ≡ true
 and-right true b e = e
 and-right false b e = absurd (false≢true e)
+
+pub or-false-left : (a b : Bool) → (a || b) ≡ false → a ≡ false
+or-false-left true b e = e
+or-false-left false b e = refl
+
+pub or-false-right : (a b : Bool) → (a || b) ≡ false → b ≡ false
+or-false-right true b e = absurd (false≢true (sym e))
+or-false-right false b e = e
+
+-- what holds of both branches holds of a choice
+pub cond-elim : {A : Type 0} (P : A → Type 0) (b : Bool) {x y : A} → P x → P y → P (cond b x y)
+cond-elim P true h k = h
+cond-elim P false h k = k

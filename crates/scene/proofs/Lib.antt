@@ -1,0 +1,17 @@
+pub mod SyntaxLaws
+pub mod AcceptLaws
+pub mod SwapLaws
+pub mod RowLaws
+pub mod RenumberLaws
+pub mod RoomLaws
+pub mod EdgeLaws
+pub mod WordsLaws
+pub mod PlaceLaws
+pub mod IndependentLaws
+pub mod BlockLaws
+pub mod TellsLaws
+pub mod ExchangeLaws
+pub mod ReadingLaws
+pub mod PropertyLaws
+pub mod MeaningLaws
+pub mod SampleLaws

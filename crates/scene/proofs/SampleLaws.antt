@@ -1,0 +1,84 @@
+-- The definitions compute: the bench sheet's rows on texts, an exchange, and the case of truck nine.
+use mathlib.Core.Bool.{true}
+use mathlib.Core.List.{List, [], _∷_, _++_, map}
+use mathlib.Core.Logic.{inl, inr}
+use mathlib.Core.Path.{_≡_, refl}
+use Prim.Native.Nat.{ℕ}
+use lib.Dec.{lit≤}
+use lib.Ieee.{round, lt, le, eq}
+use Rattle.laws.specs.Bytes.{Bytes, bytes, same}
+use Rattle.laws.specs.Runs.{all, past}
+use Rattle.lexer.specs.Class.{isBlank, isGood, isOther}
+use Rattle.lexer.specs.Word.{wordFault, wordAt}
+use Rattle.numeral.specs.Count.{countOf, digits}
+use Rattle.numeral.specs.Digits.{isDigit, valueFrom}
+use Rattle.numeral.specs.Numeral.{numeralOf, wellFormed, isMantissa, isExponent, mantissa, exponent, before, behind, has, indexOf, isPoint, isMark, isSign, negative, unsigned, coefficient, up, down, inRange, nearest, numberOf}
+use Rattle.scene.proofs.ExchangeLaws.{exchange-law}
+use Rattle.scene.specs.Block.{inBlock, given, referred, stands, share, shift}
+use Rattle.scene.specs.Exchange.{Exchange, Exchanged, exchangeShift, statementsIn}
+use Rattle.scene.specs.HouseRules.{breach, breachOf, realAt, isAbove0, isAtLeast0, is0}
+use Rattle.scene.specs.Links.{gives, hits, found, resolve, firstLater, realsUsed}
+use Rattle.scene.specs.Reading.{Entry, read, run, statements}
+use Rattle.scene.specs.Record.{entries, records, recordsFrom, recordOf, stringPlace, nth, realTable, reals}
+use Rattle.scene.specs.Samples.{TextRow, textRows, roomy, lamp, wall, panel, oak, grey, desk}
+use Rattle.scene.specs.Told.{tells, wordsFrom, renumbered}
+use Rattle.scene.specs.Types.{typeNumber, numberFrom, kindOf, stringsAllowed, realsAllowed}
+use Rattle.laws.specs.Runs as runs
+
+-- unfolding this unfolds all that reading a text computes with
+readings : Unit {0}
+unfolding read run statements gives hits found realsUsed typeNumber numberFrom kindOf stringsAllowed realsAllowed breach breachOf realAt isAbove0 isAtLeast0 is0 same all runs.run isBlank isGood wordFault countOf digits isDigit valueFrom numeralOf wellFormed isMantissa isExponent mantissa exponent before behind has indexOf isPoint isMark isSign negative unsigned coefficient up down inRange nearest numberOf round lt le eq
+readings = tt
+
+-- unfolding this unfolds all that a record, and what it tells, computes with
+tables : Unit {0}
+unfolding readings resolve firstLater records recordsFrom recordOf stringPlace nth reals tells wordsFrom wordAt past isOther
+tables = tt
+
+-- ---- the bench sheet's rows on texts
+
+text-rows : map (λ (r : TextRow). read roomy (r .text)) textRows ≡ map (λ (r : TextRow). r .reading) textRows
+unfolding readings
+text-rows = refl
+
+-- ---- an exchange
+
+es : List Entry
+es = entries (read roomy (lamp ++ wall ++ panel))
+
+lamp-first : Exchange roomy [] lamp wall panel es
+unfolding es readings inBlock given referred stands share
+lamp-first = record {
+  reads = refl;
+  first = record { starts = inl refl; ends = (bytes "void light lamp 0 0 3 1 1 1", refl); first = (inl (lit≤ tt), (inl (lit≤ tt), (inl (lit≤ tt), tt))); last = (inl (lit≤ tt), (inl (lit≤ tt), (inr (lit≤ tt), tt))) };
+  second = record { starts = inr (bytes "void light lamp 0 0 3 1 1 1", refl); ends = (bytes "# the wall \u{7f}\nvoid plastic wall\n0 0 5 .5 .5 .5 0 0", refl); first = (inl (lit≤ tt), (inl (lit≤ tt), (inr (lit≤ tt), tt))); last = (inl (lit≤ tt), (inr (lit≤ tt), (inr (lit≤ tt), tt))) };
+  independent = record { first = refl; second = refl };
+}
+
+wall-first : Exchanged roomy [] lamp wall panel es
+wall-first = exchange-law roomy [] lamp wall panel es lamp-first
+
+-- what is told of the panel: its finish was 2 and is 1, and nothing else changed
+panel-told : tells (wall ++ lamp ++ panel) (realTable (entries (read roomy (wall ++ lamp ++ panel)))) (nth (records (entries (read roomy (wall ++ lamp ++ panel)))) 3) ≡ renumbered (exchangeShift es [] lamp wall) (tells (lamp ++ wall ++ panel) (realTable es) (nth (records es) 3))
+unfolding es tables inBlock shift
+panel-told = refl
+
+-- ---- truck nine: the two finishes share a name, and the desk's finish changes from the later one to the other
+
+twice : share (given (statementsIn (entries (read roomy (oak ++ grey ++ desk))) [] oak)) (given (statementsIn (entries (read roomy (oak ++ grey ++ desk))) oak grey) ++ referred (statementsIn (entries (read roomy (oak ++ grey ++ desk))) oak grey)) ≡ true
+unfolding readings inBlock given referred stands share
+twice = refl
+
+-- the desk's modifier, and the types of the two finishes
+desk-facts : Bytes → List ℕ
+desk-facts text =
+    let rs = records (entries (read roomy text)) in
+    nth rs 3 .modifier ∷ nth rs 1 .type ∷ nth rs 2 .type ∷ []
+
+oak-first : desk-facts (oak ++ grey ++ desk) ≡ 2 ∷ 15 ∷ 16 ∷ []
+unfolding desk-facts tables
+oak-first = refl
+
+grey-first : desk-facts (grey ++ oak ++ desk) ≡ 2 ∷ 16 ∷ 15 ∷ []
+unfolding desk-facts tables
+grey-first = refl

@@ -1,0 +1,69 @@
+#!/usr/bin/env python3
+"""Whether the definitions of crate scene and the reader of tools/scene.py agree, on texts made from a seed.
+
+    tools/check-definitions.py [COUNT [SEED]]
+
+Each text becomes a row that the prover computes: the answer's four numbers, the records and the bits of the reals. The rows are
+written to a copy of the repository in a temporary folder, since computing them takes longer than the gate should. Needs rt."""
+import collections
+import pathlib
+import shutil
+import subprocess
+import sys
+import tempfile
+
+import scene
+import texts
+
+TOP = pathlib.Path(__file__).resolve().parent.parent
+
+
+def expected(text, records, reals):
+    table, doubles = scene.read(text, records, reals)
+    if isinstance(table, int):
+        return [table, doubles, 0, 0]
+    return [0, 0, len(table), len(doubles)] + [n for r in table for n in r] + doubles
+
+
+def numbers(ns):
+    return "(" + "".join("%d ∷ " % n for n in ns) + "[])"
+
+
+count = int(sys.argv[1]) if len(sys.argv) > 1 else 400
+seed = int(sys.argv[2]) if len(sys.argv) > 2 else 1
+opened = (TOP / "crates/scene/proofs/SampleLaws.antt").read_text()
+uses = [line for line in opened.split("\n") if line.startswith("use ") and "·proofs" not in line]
+names = [line[len("unfolding ") :] for line in opened.split("\n") if line.startswith("unfolding ")][:2]
+rows, reasons = [], collections.Counter()
+for k, (text, records, reals) in enumerate(texts.texts(seed, count, 3)):
+    right = expected(text, records, reals)
+    reasons[right[0]] += 1
+    rows.append(
+        "row%d : facts (record { records = %d; reals = %d }) %s ≡ %s\nunfolding facts everything\nrow%d = refl\n"
+        % (k, records, reals, numbers(text), numbers(right), k)
+    )
+with tempfile.TemporaryDirectory() as folder:
+    copy = pathlib.Path(folder, "copy")
+    shutil.copytree(TOP, copy, ignore=shutil.ignore_patterns("target", ".git"))
+    crate = copy / "crates" / "rows"
+    for part in ("src", "specs"):
+        (crate / part).mkdir(parents=True)
+    (crate / "src" / "lib.rt").write_text("// Rows computed from the definitions.\n")
+    (crate / "specs" / "Lib.antt").write_text("pub mod Rows\n")
+    head = [line.replace("Rattle.scene.specs", "Rattle.scene") for line in uses]
+    head += ["use lib.Ieee.{binary64, toBits}", "use Rattle.scene.specs.Record.{answer, flat, fields}", "use Rattle.scene.specs.Settings.{Settings}"]
+    everything = "everything : ℕ\nunfolding " + names[0] + " " + names[1].replace("readings ", "") + " flat toBits\neverything = 0\n"
+    facts = (
+        "facts : Settings → Bytes → List ℕ\n"
+        "facts r t = let x = read r t in let a = answer x in a .reason ∷ a .place ∷ a .primitives ∷ a .reals ∷ flat (records (entries x)) ++ map (toBits binary64) (realTable (entries x))\n"
+    )
+    (crate / "specs" / "Rows.antt").write_text("\n".join(head) + "\n\n" + everything + "\n" + facts + "\n" + "\n".join(rows))
+    with (copy / "crates.txt").open("a") as f:
+        f.write("rows: laws lexer numeral scene\n")
+    ran = subprocess.run(["rt", "check", "rows"], cwd=copy, capture_output=True, text=True)
+out = ran.stdout + ran.stderr
+differ = sorted({line.split("`")[1] for line in out.split("\n") if ": error: `row" in line})
+print("%d texts, %d differ; by reason: %s" % (count, len(differ), dict(sorted(reasons.items()))))
+if ran.returncode != 0:
+    print("\n".join(out.split("\n")[-30:]) if not differ else " ".join(differ))
+    sys.exit(1)

@@ -1,0 +1,203 @@
+#!/usr/bin/env python3
+"""A reader of scene texts, written from document 01 alone: what the definitions and the program are compared with.
+
+    tools/scene.py < TEXT        the listing of a text, or its refusal
+
+read(text, record_room, real_room) gives (reason, place) for a refused text, else (records, reals): lists of ten numbers, and the
+bits of the doubles."""
+import sys
+
+import numerals
+
+SURFACES = "source sphere bubble polygon cone cup cylinder tube ring".split()
+MATERIALS = (
+    "light illum glow spotlight mirror plastic metal trans plastic2 metal2 trans2 dielectric interface glass antimatter".split()
+)
+TYPES = SURFACES + MATERIALS + ["mixfunc"]
+EXACT_REALS = dict(
+    source=4, sphere=4, bubble=4, cone=8, cup=8, cylinder=7, tube=7, ring=8, light=3, illum=3, glow=4, spotlight=7, mirror=3,
+    plastic=5, metal=5, trans=7, plastic2=6, metal2=6, trans2=8, dielectric=5, interface=8, antimatter=0,
+)
+BLANKS = bytes([9, 10, 11, 12, 13, 32])
+
+
+class Refused(Exception):
+    def __init__(self, reason, place):
+        self.answer = (reason, place)
+
+
+def strings_allowed(kind, n):
+    if kind in ("plastic2", "metal2", "trans2", "mixfunc"):
+        return n >= 4
+    if kind == "antimatter":
+        return n >= 1
+    return n == (1 if kind in ("illum", "mirror") else 0)
+
+
+def reals_allowed(kind, n):
+    if kind == "polygon":
+        return n >= 9 and n % 3 == 0
+    if kind == "glass":
+        return n in (3, 4)
+    if kind == "mixfunc":
+        return True
+    return n == EXACT_REALS[kind]
+
+
+def breach(kind, values):
+    """Whether the last of the values completes a breach of a house rule. Values are exact signed fractions or floats."""
+    k, x = len(values), values[-1]
+    if (kind in ("sphere", "bubble", "dielectric", "glass") and k == 4) or (kind in ("cylinder", "tube") and k == 7):
+        return not x > 0
+    if kind == "interface" and k in (4, 8):
+        return not x > 0
+    if kind in ("plastic2", "metal2", "trans2") and k in (5, 6):
+        return not x > 0
+    if kind in ("cone", "cup"):
+        return (k in (7, 8) and x < 0) or (k == 8 and x == 0 and values[6] == 0)
+    if kind == "ring":
+        if k == 6:
+            return values[3] == values[4] == x == 0
+        return (k == 7 and x < 0) or (k == 8 and not x > values[6])
+    if kind == "source" and k == 3:
+        return values[0] == values[1] == x == 0
+    return False
+
+
+def count(word):
+    return int(word) if 1 <= len(word) <= 5 and all(48 <= b <= 57 for b in word) else None
+
+
+class Reader:
+    def __init__(self, text, record_room, real_room):
+        self.text, self.at = text, 0
+        self.record_room, self.real_room = record_room, real_room
+        self.names, self.records, self.reals = [], [], []
+
+    def skip(self):
+        while self.at < len(self.text) and self.text[self.at] in BLANKS:
+            self.at += 1
+
+    def word(self):
+        self.skip()
+        start = self.at
+        if start == len(self.text):
+            raise Refused(5, start)
+        while self.at < len(self.text) and self.text[self.at] not in BLANKS:
+            self.at += 1
+        word = self.text[start : self.at]
+        if any(not 33 <= b <= 126 for b in word):
+            raise Refused(2, start)
+        if len(word) > 64:
+            raise Refused(3, start)
+        return word, start
+
+    def latest(self, name):
+        for number in range(len(self.names), 0, -1):
+            if self.names[number - 1] == name:
+                return number
+        return 0
+
+    def counted(self, allowed):
+        word, place = self.word()
+        n = count(word)
+        if n is None or not allowed(n):
+            raise Refused(12, place)
+        return n, place
+
+    def named(self):
+        name, place = self.word()
+        if name == b"void":
+            raise Refused(9, place)
+        return name, place
+
+    def statement(self):
+        modifier, place = self.word()
+        if len(self.records) == self.record_room:
+            raise Refused(6, place)
+        link = 0 if modifier == b"void" else self.latest(modifier)
+        if modifier != b"void" and link == 0:
+            raise Refused(7, place)
+        kind, place = self.word()
+        if kind == b"alias":
+            name, at = self.named()
+            target, place = self.word()
+            number = self.latest(target)
+            if number == 0:
+                raise Refused(10, place)
+            source = self.records[number - 1]
+            if source[0] <= 9:
+                raise Refused(11, place)
+            record = [source[0], link, number, at, len(name)] + source[5:9] + [0]
+        else:
+            kind = kind.decode()
+            if kind not in TYPES:
+                raise Refused(8, place)
+            name, at = self.named()
+            record = [TYPES.index(kind) + 1, link, 0, at, len(name)] + self.arguments(kind) + [0]
+        earlier = self.latest(name)
+        if earlier:
+            self.records[earlier - 1][9] = len(self.records) + 1
+        self.names.append(name)
+        self.records.append(record)
+
+    def arguments(self, kind):
+        strings, _ = self.counted(lambda n: strings_allowed(kind, n))
+        first = 0
+        for k in range(strings):
+            _, place = self.word()
+            first = place if k == 0 else first
+        self.counted(lambda n: n == 0)
+        reals, place = self.counted(lambda n: reals_allowed(kind, n))
+        if len(self.reals) + reals > self.real_room:
+            raise Refused(13, place)
+        index, values = len(self.reals), []
+        for _ in range(reals):
+            word, place = self.word()
+            answer = numerals.answer(word).split()
+            if answer[0] != "0":
+                raise Refused(int(answer[0]), place)
+            bits = int(answer[1], 16)
+            values.append(numerals.value(bits))
+            if breach(kind, values):
+                raise Refused(16, place)
+            self.reals.append(bits)
+        return [first, strings, index if reals else 0, reals]
+
+    def read(self):
+        if len(self.text) > 65536:
+            return (1, 0)
+        try:
+            while True:
+                self.skip()
+                if self.at == len(self.text):
+                    return self.records, self.reals
+                mark = self.text[self.at]
+                if mark == ord("#"):
+                    end = self.text.find(b"\n", self.at)
+                    self.at = len(self.text) if end < 0 else end + 1
+                elif mark == ord("!"):
+                    return (4, self.at)
+                else:
+                    self.statement()
+        except Refused as refused:
+            return refused.answer
+
+
+def read(text, record_room=1024, real_room=4096):
+    return Reader(text, record_room, real_room).read()
+
+
+def listing(text, record_room=1024, real_room=4096):
+    records, reals = read(text, record_room, real_room)
+    if isinstance(records, int):
+        return "refused=%d place=%d\n" % (records, reals)
+    lines = ["primitives=%d reals=%d\n" % (len(records), len(reals))]
+    for number, r in enumerate(records, 1):
+        name = text[r[3] : r[3] + r[4]].decode()
+        lines.append("no=%d mod=%d alias=%d type=%s name=%s next=%d\n" % (number, r[1], r[2], TYPES[r[0] - 1], name, r[9]))
+    return "".join(lines)
+
+
+if __name__ == "__main__":
+    sys.stdout.write(listing(sys.stdin.buffer.read()))

@@ -1,0 +1,89 @@
+#!/usr/bin/env python3
+"""Scene texts to try a reader on, valid and damaged, made from a seed: texts(seed, count, most) yields (text, record_room, real_room)
+with at most so many statements each. Every reason for refusing turns up among them."""
+import random
+
+import scene
+
+NAMES = ["wall", "desk", "deskfront", "lamp", "trim", "a", "x#y", "q!", "void2", "alias", "sphere", "n" * 64]
+NUMERALS = "0 1 -1 .5 2. 1e3 -2.5e-3 +7 0.0 -0 100 3.25 1E2 9e-22 123456789012345 .001".split()
+BAD_NUMERALS = ". e5 1e 1.2.3 1e1000 0x1 -".split()
+LARGE_NUMERALS = "1e23 1000000000000000 1e-23 9999999999999999".split()
+LONG = "y" * 65
+
+
+def statement(rng, names):
+    """A statement as words, likely to be accepted after those whose names are given."""
+    modifier = rng.choice(["void"] + names * 2) if names else "void"
+    if names and rng.random() < 0.2:
+        return [modifier, "alias", rng.choice(NAMES), rng.choice(names)]
+    kind = rng.choice(scene.TYPES)
+    strings = rng.choice([n for n in range(7) if scene.strings_allowed(kind, n)])
+    reals = rng.choice([n for n in range(13) if scene.reals_allowed(kind, n)])
+    words = [modifier, kind, rng.choice(NAMES)]
+    words += [str(strings).zfill(rng.choice([1, 1, 2, 5]))] + [rng.choice(NAMES + ["#s", "!s"]) for _ in range(strings)]
+    words += [rng.choice(["0", "0", "00"]), str(reals)]
+    values = []
+    for _ in range(reals):
+        for _ in range(8):
+            word = rng.choice(NUMERALS)
+            value = float(word)
+            if not scene.breach(kind, values + [value]) or rng.random() < 0.05:
+                break
+        values.append(value)
+        words.append(word)
+    return words
+
+
+def spoil(rng, words):
+    """One word changed so that a reason for refusing is likely."""
+    kind = rng.random()
+    if kind < 0.1:
+        words[2] = "void"
+        return
+    if kind < 0.2:
+        words[1:] = ["alias", "trim", "nowhere"]
+        return
+    at = rng.randrange(len(words))
+    words[at] = rng.choice(
+        ["void", "alias", "sphere", "nowhere", LONG, "caf\xe9", "6", "000000", "-1", "!", "#", ""]
+        + BAD_NUMERALS
+        + LARGE_NUMERALS
+        + NUMERALS
+    )
+    if rng.random() < 0.2:
+        del words[at]
+
+
+def text(rng, most):
+    out, names = b"", []
+    for _ in range(rng.randrange(most + 1)):
+        if rng.random() < 0.2:
+            out += rng.choice([b"# note \xff!\n", b"\n", b"  \t\n", b"#\n", b" # trailing\r\n"])
+        words = statement(rng, names)
+        if rng.random() < 0.12:
+            spoil(rng, words)
+        else:
+            names.append(words[2])
+        blanks = [b" "] * 6 + [b"\n", b"\t", b"  ", b"\r\n", b"\x0b", b"\x0c"]
+        out += b"".join(w.encode("latin-1") + rng.choice(blanks) for w in words)
+        out += rng.choice([b"\n", b"\n", b" ", b""])
+    if rng.random() < 0.05:
+        out += rng.choice([b"!run it\n", b"# the end", b"!", b"void", b"void sphere"])
+    damage = rng.random()
+    if out and damage < 0.08:
+        out = out[: rng.randrange(len(out))]
+    elif out and damage < 0.16:
+        at = rng.randrange(len(out))
+        out = out[:at] + bytes([rng.choice([0, 9, 10, 32, 33, 35, 48, 65, 127, 200, 255])]) + out[at + rng.randrange(2) :]
+    elif out and damage < 0.18:
+        out = out.rstrip()
+    return out
+
+
+def texts(seed, count, most):
+    rng = random.Random(seed)
+    for _ in range(count):
+        records = rng.choice([0, 1, 2, 3, 5] + [1024] * 15)
+        reals = rng.choice([0, 3, 8, 20] + [4096] * 16)
+        yield text(rng, most), records, reals

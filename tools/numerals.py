@@ -5,6 +5,7 @@
     tools/numerals.py answers     the answers to standard input's words (crates/numerals/stdout)
 
 An answer is 14 for a malformed numeral, 15 for one out of range, or 0 and the bits of the nearest double in hex."""
+import functools
 import random
 import re
 import struct
@@ -33,6 +34,7 @@ def nearest(number):
     return (exponent + 1075) << 52 | (whole - 2**52)
 
 
+@functools.lru_cache(maxsize=None)
 def answer(word):
     shape = SHAPE.match(word)
     if shape is None:

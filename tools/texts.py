@@ -1,7 +1,10 @@
 #!/usr/bin/env python3
 """Scene texts to try a reader on, valid and damaged, made from a seed: texts(seed, count, most) yields (text, record_room, real_room)
-with at most so many statements each. Every reason for refusing turns up among them."""
+with at most so many statements each. Every reason for refusing turns up among them, 6 and 13 by the smaller rooms, but not 1.
+
+    tools/texts.py NAME      writes a text at or just past a limit of document 01: see limits"""
 import random
+import sys
 
 import scene
 
@@ -87,3 +90,29 @@ def texts(seed, count, most):
         records = rng.choice([0, 1, 2, 3, 5] + [1024] * 15)
         reals = rng.choice([0, 3, 8, 20] + [4096] * 16)
         yield text(rng, most), records, reals
+
+
+def sized(primitives=1, reals=0, word=1, size=0):
+    """An accepted text but for its limits: so many primitives and reals, a name of so many bytes, and so many bytes in all, which a
+    comment makes up."""
+    name = b"n" * word
+    out = b"void mixfunc " + name + b" 4 a b c d 0 %d" % reals + b" 1" * reals + b"\n"
+    if primitives > 1:
+        out += b"void alias a " + name + b"\n"
+    out += b"a alias a a\n" * (primitives - 2)
+    return out + b"#" * (size - len(out))
+
+
+def limits():
+    """All limits met at once, and each alone just past."""
+    return dict(
+        full=sized(1024, 4096, 64, 65536),
+        primitives=sized(primitives=1025),
+        reals=sized(reals=4097),
+        word=sized(word=65),
+        bytes=sized(size=65537),
+    )
+
+
+if __name__ == "__main__":
+    sys.stdout.buffer.write(limits()[sys.argv[1]])

@@ -1,16 +1,18 @@
 -- Laws of runs: what one step of a scan does, and what a run's end shows.
 use mathlib.Core.Bool.{Bool, true, false, cond}
-use mathlib.Core.List.{List, [], _∷_}
-use mathlib.Core.Path.{_≡_, refl}
+use mathlib.Core.List.{List, [], _∷_, _++_}
+use mathlib.Core.Logic.{_⊎_, inl, inr}
+use mathlib.Core.Path.{_≡_, refl, ap, sym, _∙_}
 use Prim.Native.Nat.{ℕ, zero, suc, _+_, _≤_, _<_, min}
 use native.Mathlib.Numerals.{add-one}
 use native.Mathlib.Omega.{arith}
-use lib.ListN.{length, drop, getD, drop-of-length-le, length-drop}
-use lib.Seq.{drop-cons}
+use lib.ListN.{length, take, drop, getD, drop-of-length-le, length-drop}
+use lib.Seq.{drop-cons, getD-drop}
+use Rattle.laws.proofs.NatLaws.{le-or-lt}
 use Rattle.laws.specs.Runs.{all, run, past}
 
 module _ {A : Type 0} (test : A → Bool) where
-  run-more : (x : A) (xs : List A) → test x ≡ true → run test (x ∷ xs) ≡ suc (run test xs)
+  pub run-more : (x : A) (xs : List A) → test x ≡ true → run test (x ∷ xs) ≡ suc (run test xs)
   unfolding run
   run-more x xs e = rw e
 
@@ -52,6 +54,32 @@ module _ {A : Type 0} (test : A → Bool) where
       go : (b : Bool) → test x ≡ b → cond b (suc (run test xs)) 0 < suc (length xs) → (run test xs < length xs → test (getD xs (run test xs) d) ≡ false) → test (getD (x ∷ xs) (cond b (suc (run test xs)) 0) d) ≡ false
       go true e h ih = ih (omega arith)
       go false e h ih = e
+
+  -- the run itself passes
+  pub run-all : (xs : List A) → all test (take (run test xs) xs) ≡ true
+  unfolding run all
+  run-all [] = refl
+  run-all (x ∷ xs) = go (test x) refl (run-all xs)
+    where
+      go : (b : Bool) → test x ≡ b → all test (take (run test xs) xs) ≡ true → all test (take (cond b (suc (run test xs)) 0) (x ∷ xs)) ≡ true
+      go true e h = rw (e, h)
+      go false e h = refl
+
+  -- with an element that fails put behind the list, one that fails stands behind the run
+  pub record Behind (d : A) (xs : List A) : Type 0 where
+    pub first : A
+    pub rest : List A
+    pub split : xs ++ d ∷ [] ≡ first ∷ rest
+    pub fails : test first ≡ false
+
+  pub behind-run : (d : A) (xs : List A) → test d ≡ false → Behind d (drop (run test xs) xs)
+  unfolding run
+  behind-run d [] h = record { first = d; rest = []; split = refl; fails = h }
+  behind-run d (x ∷ xs) h = go (test x) refl (behind-run d xs h)
+    where
+      go : (b : Bool) → test x ≡ b → Behind d (drop (run test xs) xs) → Behind d (drop (cond b (suc (run test xs)) 0) (x ∷ xs))
+      go true e h = h
+      go false e h = record { first = x; rest = xs ++ d ∷ []; split = refl; fails = e }
 
   -- a scan from place i on: past the end, at an element that fails, and past one that passes
   module _ (xs : List A) (i : ℕ) where
@@ -95,3 +123,11 @@ module _ {A : Type 0} (test : A → Bool) where
       pub all-step : test (getD xs i d) ≡ true → all test (drop (i + 1) xs) ≡ all test (drop i xs)
       unfolding all
       all-step e = rw (drop-cons xs i d h, e, add-one)
+
+  -- where a scan stops within the list, the element fails
+  pub past-fails : (xs : List A) (i : ℕ) (d : A) → past test xs i < length xs → test (getD xs (past test xs i) d) ≡ false
+  past-fails xs i d h = go (le-or-lt i (length xs))
+    where
+      go : (i ≤ length xs) ⊎ (length xs < i) → test (getD xs (past test xs i) d) ≡ false
+      go (inl l) = ap (λ (n : ℕ). test (getD xs n d)) (past-run xs i l) ∙ ap test (sym (getD-drop i xs (run test (drop i xs)) d)) ∙ run-stops d (drop i xs) (omega (arith, past-run xs i l, length-drop i xs))
+      go (inr l) = absurd (omega (arith, past-end xs i (omega arith)))

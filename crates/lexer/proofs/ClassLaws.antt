@@ -3,9 +3,9 @@ use mathlib.Core.Bool.{Bool, true, false, cond, not, _&&_, _||_}
 use mathlib.Core.Path.{_≡_, refl, sym}
 use Prim.Native.Nat.{ℕ, _≤_}
 use native.Mathlib.Omega.{arith}
-use borrow.Author.Tests.{leb-true, eqb-true, lt-leb}
+use borrow.Author.Tests.{leb-true, eqb-true, lt-leb, eq-eqb, ne-eqb}
 use lib.Dec.{leb, eqb}
-use Rattle.lexer.specs.Class.{isBlank, isOther, isGood, isRun, classOf}
+use Rattle.lexer.specs.Class.{isBlank, isOther, isGood, isInLine, isRun, classOf}
 
 blank-low : (b : ℕ) → isBlank b ≡ true → b ≤ 32
 unfolding isBlank
@@ -50,3 +50,12 @@ pub ends-run : (blanks : Bool) (b : ℕ) → isBlank b ≡ not blanks → isRun 
 unfolding isOther
 ends-run true b e = e
 ends-run false b e = rw e
+
+-- a byte goes on with a line unless it is byte 10
+pub in-line : (b : ℕ) → (b ≡ 10 → ⊥) → isInLine b ≡ true
+unfolding isInLine
+in-line b h = rw (ne-eqb b 10 h)
+
+pub ends-line : (b : ℕ) → b ≡ 10 → isInLine b ≡ false
+unfolding isInLine
+ends-line b e = rw (eq-eqb b 10 e)

@@ -23,3 +23,7 @@ isGood b = leb 33 b && leb b 126
 -- "A table gives each of the 256 byte numbers its one class": 0 blank, 1 good, 2 bad
 unfoldable pub classOf : ℕ → ℕ
 classOf b = cond (isBlank b) 0 (cond (isGood b) 1 2)
+
+-- "A line ends with byte 10": any other byte stands in a line
+unfoldable pub isInLine : ℕ → Bool
+isInLine b = not (eqb b 10)

@@ -1,9 +1,9 @@
 // The bytes and words of a text.
 ghost use mathlib.Core.Path.{_≡_};
 ghost use Prim.Native.Nat.{min};
-ghost use Rattle.laws.specs.Bytes.{part};
+ghost use Rattle.laws.specs.Bytes.{part, same};
 ghost use Rattle.laws.specs.Runs.{all, past};
-ghost use Rattle.lexer.specs.Class.{classOf, isBlank, isGood, isOther, isRun};
+ghost use Rattle.lexer.specs.Class.{classOf, isBlank, isGood, isInLine, isOther, isRun};
 ghost use Rattle.lexer.specs.Word.{wordAt, wordFault};
 
 pub const BLANK: u8 = 0;
@@ -325,6 +325,20 @@ pub fn word_end(text: &[u8], at: usize) -> usize
     run_end(text, at, false)
 }
 
+// The first place from `at` on that holds byte 10, or the text's length.
+pub fn line_end(text: &[u8], at: usize) -> usize
+    ensures { λ r. ⌜ r ≡ past isInLine (now (text .entry)) at ⌝ }
+{
+    let mut i = at;
+    while i < text.len() {
+        if text[i] == 10 {
+            return i;
+        }
+        i += 1;
+    }
+    text.len()
+}
+
 // The next word from `at` on; at or past the end an empty word at the text's length.
 pub fn next_word(text: &[u8], at: usize) -> Word
     ensures { λ r. ⌜ r ≡ wordAt (now (text .entry)) at ⌝ }
@@ -350,6 +364,23 @@ fn least(a: usize, b: usize) -> usize
     ensures { λ r. ⌜ r ≡ min a b ⌝ }
 {
     if a < b { a } else { b }
+}
+
+// Whether two words have the same bytes.
+pub fn same(a: &[u8], b: &[u8]) -> bool
+    ensures { λ r. ⌜ r ≡ same (now (a .entry)) (now (b .entry)) ⌝ }
+{
+    if a.len() != b.len() {
+        return false;
+    }
+    let mut i = 0;
+    while i < a.len() {
+        if a[i] != b[i] {
+            return false;
+        }
+        i += 1;
+    }
+    true
 }
 
 // Whether every byte of a word is good in one.

@@ -25,16 +25,16 @@ unfolding run
 run-append r X [] b = refl
 run-append r X (c ∷ a) b = run-append r (feed r X c) a b
 
-run-refused : (r : Settings) (n p : ℕ) (t : Bytes) → run r (stopped n p) t ≡ stopped n p
+pub run-stopped : (r : Settings) (n p : ℕ) (t : Bytes) → run r (stopped n p) t ≡ stopped n p
 unfolding run
-run-refused r n p [] = refl
-run-refused r n p (b ∷ t) = run-refused r n p t
+run-stopped r n p [] = refl
+run-stopped r n p (b ∷ t) = run-stopped r n p t
 
 pub run-first : (r : Settings) (X : State) (a b : Bytes) (g : Going) → run r X (a ++ b) ≡ going g → (k : Going) × (run r X a ≡ going k) × (run r (going k) b ≡ going g)
 run-first r X a b g e = go (run r X a) refl
   where
     go : (Y : State) → run r X a ≡ Y → (k : Going) × (run r X a ≡ going k) × (run r (going k) b ≡ going g)
-    go (stopped n p) q = let z : stopped n p ≡ going g = sym (run-refused r n p b) ∙ ap (λ (Y : State). run r Y b) (sym q) ∙ sym (run-append r X a b) ∙ e in let w : _≡_ {A = ℕ} 0 1 = cc in absurd (omega arith)
+    go (stopped n p) q = let z : stopped n p ≡ going g = sym (run-stopped r n p b) ∙ ap (λ (Y : State). run r Y b) (sym q) ∙ sym (run-append r X a b) ∙ e in let w : _≡_ {A = ℕ} 0 1 = cc in absurd (omega arith)
     go (going k) q = (k, q, ap (λ (Y : State). run r Y b) (sym q) ∙ sym (run-append r X a b) ∙ e)
 
 -- ---- moves that a mode allows
@@ -97,7 +97,7 @@ run-far r [] X k h = subst (λ n. Far n X) (sym (add-zero k)) h
 run-far r (b ∷ t) (stopped n p) k h = run-far-refused t
   where
     run-far-refused : (t : Bytes) → Far (k + length (b ∷ t)) (run r (stopped n p) t)
-    run-far-refused t = subst (Far (k + length (b ∷ t))) (sym (run-refused r n p t)) tt
+    run-far-refused t = subst (Far (k + length (b ∷ t))) (sym (run-stopped r n p t)) tt
 run-far r (b ∷ t) (going g) k h =
     let e : suc k + length t ≡ k + suc (length t) = omega arith in
     subst (λ n. Far n (run r (advance r g (move (g .mode) (g .phase) b)) t)) e (run-far r t (advance r g (move (g .mode) (g .phase) b)) (suc k) (subst (λ n. Far (suc n) (advance r g (move (g .mode) (g .phase) b))) h (advance-far r g (move (g .mode) (g .phase) b))))

@@ -11,6 +11,9 @@ pub mod IndependentLaws
 pub mod BlockLaws
 pub mod TellsLaws
 pub mod ExchangeLaws
+pub mod FlatLaws
+pub mod GrowLaws
+pub mod TurnLaws
 pub mod ReadingLaws
 pub mod PropertyLaws
 pub mod MeaningLaws

@@ -324,3 +324,8 @@ run-holds r (b ∷ t) c (going g) h = subst (λ (z : Bytes). HoldsS z (run r (fe
 
 pub all-read : (r : Settings) (t : Bytes) (g : Going) → run r initial t ≡ going g → AllRead t (g .above)
 all-read r t g e = (subst (HoldsS t) e (run-holds r t [] initial (record { at = refl; above = tt; phase = tt }))) .above
+
+-- what has been read stays read
+pub all-on : (t c : Bytes) (es : List Entry) → AllRead c es → AllRead (c ++ t) es
+all-on [] c es h = subst (λ (z : Bytes). AllRead z es) (sym (append-nil c)) h
+all-on (b ∷ t) c es h = subst (λ (z : Bytes). AllRead z es) (snoc c b t) (all-on t (more c b) es (all-more c b es h))

@@ -16,7 +16,7 @@ use Rattle.numeral.specs.Numeral.{numeralOf, wellFormed, isMantissa, isExponent
 use Rattle.scene.proofs.ExchangeLaws.{exchange-law}
 use Rattle.scene.specs.Block.{inBlock, given, referred, stands, share, shift}
 use Rattle.scene.specs.Exchange.{Exchange, Exchanged, exchangeShift, statementsIn}
-use Rattle.scene.specs.HouseRules.{breach, breachOf, realAt, isAbove0, isAtLeast0, is0}
+use Rattle.scene.specs.HouseRules.{breach, breachAt, realAt, isAbove0, isAtLeast0, is0}
 use Rattle.scene.specs.Links.{gives, hits, found, resolve, firstLater, realsUsed}
 use Rattle.scene.specs.Reading.{Entry, read, run, statements}
 use Rattle.scene.specs.Record.{entries, records, recordsFrom, recordOf, stringPlace, nth, realTable, reals}
@@ -27,7 +27,7 @@ use Rattle.laws.specs.Runs as runs
 
 -- unfolding this unfolds all that reading a text computes with
 readings : Unit {0}
-unfolding read run statements gives hits found realsUsed typeNumber numberFrom kindOf stringsAllowed realsAllowed breach breachOf realAt isAbove0 isAtLeast0 is0 same all runs.run isBlank isGood wordFault countOf digits isDigit valueFrom numeralOf wellFormed isMantissa isExponent mantissa exponent before behind has indexOf isPoint isMark isSign negative unsigned coefficient up down inRange nearest numberOf round lt le eq
+unfolding read run statements gives hits found realsUsed typeNumber numberFrom kindOf stringsAllowed realsAllowed breach breachAt realAt isAbove0 isAtLeast0 is0 same all runs.run isBlank isGood wordFault countOf digits isDigit valueFrom numeralOf wellFormed isMantissa isExponent mantissa exponent before behind has indexOf isPoint isMark isSign negative unsigned coefficient up down inRange nearest numberOf round lt le eq
 readings = tt
 
 -- unfolding this unfolds all that a record, and what it tells, computes with

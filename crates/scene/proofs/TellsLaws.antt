@@ -46,13 +46,13 @@ own s d = go (s .body) refl
     go (alias x) q = refl
 
 -- the source is a tail of the list
-abbrev Tail : List Statement → List Statement → Type 0
+abbrev pub Tail : List Statement → List Statement → Type 0
 Tail x D = (y : List Statement) × (D ≡ y ++ x)
 
 tail-cons : (s : Statement) (x D : List Statement) → Tail x D → Tail x (s ∷ D)
 tail-cons s x D (y, h) = (s ∷ y, ap {B = List Statement} (λ (z : List Statement). s ∷ z) h)
 
-resolve-tail : (w : Bytes) (D : List Statement) → Tail (resolve w D) D
+pub resolve-tail : (w : Bytes) (D : List Statement) → Tail (resolve w D) D
 unfolding resolve
 resolve-tail w [] = ([], refl)
 resolve-tail w (s ∷ D) = go (hits w s) (resolve-tail w D) (λ x. resolve-tail x D)
@@ -65,26 +65,26 @@ resolve-tail w (s ∷ D) = go (hits w s) (resolve-tail w D) (λ x. resolve-tail 
     go true h k = body (s .body) k
     go false h k = tail-cons s (resolve w D) D h
 
-source-tail : (s : Statement) (d : List Statement) → Tail (source s d) (s ∷ d)
+pub source-tail : (s : Statement) (d : List Statement) → Tail (source s d) (s ∷ d)
 source-tail s d = go (s .body)
   where
     go : (b : Body) → Tail (through b (s ∷ d) (λ x. resolve x d)) (s ∷ d)
     go (primitive t ss rs) = ([], refl)
     go (alias x) = tail-cons s (resolve x d) d (resolve-tail x d)
 
-tail-trans : (x l D d : List Statement) → D ≡ l ++ d → Tail x d → Tail x D
+pub tail-trans : (x l D d : List Statement) → D ≡ l ++ d → Tail x d → Tail x D
 tail-trans x l D d q (y, h) = (l ++ y, q ∙ ap {B = List Statement} (λ (z : List Statement). l ++ z) h ∙ sym (append-assoc l y x))
 
-tail-length : (x D : List Statement) → Tail x D → length x ≤ length D
+pub tail-length : (x D : List Statement) → Tail x D → length x ≤ length D
 tail-length x D (y, h) = omega (arith, ap length h, length-append y x)
 
 -- ---- the reals
 
-numbers-length : (fs : List Literal) → length (numbers fs) ≡ length fs
+pub numbers-length : (fs : List Literal) → length (numbers fs) ≡ length fs
 numbers-length [] = refl
 numbers-length (f ∷ fs) = ap suc (numbers-length fs)
 
-reals-count : (b : Body) → length (realsIn b) ≡ realsAdded b
+pub reals-count : (b : Body) → length (realsIn b) ≡ realsAdded b
 reals-count (primitive t ss rs) = numbers-length rs
 reals-count (alias x) = refl
 
@@ -127,11 +127,11 @@ unfolding statements
 statements-length [] = refl
 statements-length (e ∷ es) = ap suc (statements-length es)
 
-string-here : (e : Entry) (es : List Entry) → stringPlace (e ∷ es) (suc (length (statements es))) ≡ e .places .string
+pub string-here : (e : Entry) (es : List Entry) → stringPlace (e ∷ es) (suc (length (statements es))) ≡ e .places .string
 unfolding stringPlace
 string-here e es = rw (statements-length es, eq-eqb (suc (length es)) (suc (length es)) refl)
 
-string-below : (e : Entry) (es : List Entry) (n : ℕ) → n ≤ length (statements es) → stringPlace (e ∷ es) n ≡ stringPlace es n
+pub string-below : (e : Entry) (es : List Entry) (n : ℕ) → n ≤ length (statements es) → stringPlace (e ∷ es) n ≡ stringPlace es n
 unfolding stringPlace
 string-below e es n h = rw (ne-eqb n (suc (length es)) (λ q. omega (arith, statements-length es)))
 

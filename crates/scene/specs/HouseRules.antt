@@ -81,12 +81,11 @@ houseRules =
 unfoldable pub realAt : List Float → ℕ → Float
 realAt rs k = getD rs (k - 1) zeroReal
 
-unfoldable pub breachOf : List House → ℕ → List Float → Bool
-breachOf [] t rs = false
-breachOf (h ∷ hs) t rs =
-    let k = length rs in
-    eqb (h .type) t && eqb (h .real) k && breaks (h .rule) (realAt rs k) (realAt rs (k - 1)) (realAt rs (k - 2)) || breachOf hs t rs
+-- whether real number `count` of a type, after `previous` and before that `first`, breaks a rule of the list
+unfoldable pub breachAt : List House → (type count : ℕ) → (x previous first : Float) → Bool
+breachAt [] t k x y z = false
+breachAt (h ∷ hs) t k x y z = eqb (h .type) t && eqb (h .real) k && breaks (h .rule) x y z || breachAt hs t k x y z
 
 -- "16 breaks a house rule": whether the last of a type's reals so far completes a breach
 unfoldable pub breach : ℕ → List Float → Bool
-breach = breachOf houseRules
+breach t rs = let k = length rs in breachAt houseRules t k (realAt rs k) (realAt rs (k - 1)) (realAt rs (k - 2))

@@ -104,6 +104,10 @@ pub data State : Type 0 where
   stopped : (reason place : ℕ) → State
   going : Going → State
 
+-- a state by its parts
+abbrev pub goingAt : ℕ → Mode → Phase → Places → List Entry → State
+goingAt n m ph k es = going (record { at = n; mode = m; phase = ph; places = k; above = es })
+
 -- the places when a word begins at p
 abbrev pub beginWord : ℕ → Places → Places
 beginWord p k = record { word = p; start = k .start; name = k .name; string = k .string }

@@ -73,6 +73,10 @@ typeNumber w = numberFrom 1 w types
 unfoldable pub kindOf : ℕ → Kind
 kindOf t = getD types (t - 1) (record { name = []; strings = any; reals = any })
 
+-- the name of a type's number
+unfoldable pub typeName : ℕ → Bytes
+typeName t = kindOf t .name
+
 unfoldable pub stringsAllowed : ℕ → ℕ → Bool
 stringsAllowed t k = allows (kindOf t .strings) k
 

@@ -1,0 +1,4 @@
+pub mod CountLaws
+pub mod HouseLaws
+pub mod NameLaws
+pub mod RowLaws

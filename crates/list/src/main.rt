@@ -1,0 +1,4 @@
+// Lists the scene text on standard input.
+fn main() {
+    print::list_input();
+}

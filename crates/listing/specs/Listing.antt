@@ -1,0 +1,51 @@
+-- The lines of a listing.
+use mathlib.Core.Bool.{cond}
+use mathlib.Core.List.{List, [], _∷_, _++_}
+use Prim.Native.Nat.{ℕ, zero, suc, _+_, _*_, _-_, _/_, _%_}
+use Prim.Native.String.{String}
+use lib.Dec.{eqb}
+use lib.ListN.{getD}
+use Rattle.laws.specs.Bytes.{Bytes, byte, bytes, part}
+use Rattle.scene.specs.Record.{Answer, width}
+use Rattle.scene.specs.Types.{typeName}
+
+-- the last k digits of a number in base ten, without leading zeros
+unfoldable pub digits : ℕ → ℕ → Bytes
+digits zero n = []
+digits (suc k) zero = []
+digits (suc k) (suc n) = digits k (suc n / 10) ++ ((byte "0" + suc n % 10) ∷ [])
+
+-- a number in base ten. It has no more digits than it counts
+unfoldable pub decimal : ℕ → Bytes
+decimal zero = bytes "0"
+decimal (suc n) = digits (suc n) (suc n)
+
+-- a number behind its label
+abbrev pub field : String → ℕ → Bytes
+field label n = bytes label ++ decimal n
+
+-- the first line: the counts, or the reason for refusing and its place
+unfoldable pub headLine : Answer → Bytes
+headLine a =
+    cond (eqb (a .reason) 0)
+    (field "primitives=" (a .primitives) ++ field " reals=" (a .reals) ++ bytes "\n")
+    (field "refused=" (a .reason) ++ field " place=" (a .place) ++ bytes "\n")
+
+-- the line of a record: its number, its links and its type, and then its name and the next of that name
+abbrev pub linksOf : (number modifier target : ℕ) → (type : Bytes) → Bytes
+linksOf number modifier target type =
+    field "no=" number ++ field " mod=" modifier ++ field " alias=" target ++ bytes " type=" ++ type
+
+unfoldable pub lineOf : (number modifier target : ℕ) → (type name : Bytes) → (next : ℕ) → Bytes
+lineOf number modifier target type name next =
+    linksOf number modifier target type ++ bytes " name=" ++ name ++ field " next=" next ++ bytes "\n"
+
+-- number k, from 0, of record n, from 1; 0 where the table has none
+unfoldable pub entryOf : List ℕ → ℕ → ℕ → ℕ
+entryOf table n k = getD table ((n - 1) * width + k) 0
+
+-- the line of record n of a text and its table
+unfoldable pub rowLine : Bytes → List ℕ → ℕ → Bytes
+rowLine text table n =
+    let entry = entryOf table n in
+    lineOf n (entry 1) (entry 2) (typeName (entry 0)) (part text (entry 3) (entry 4)) (entry 9)

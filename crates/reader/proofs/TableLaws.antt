@@ -1,0 +1,98 @@
+-- What the functions over the lent tables answer, case by case.
+use mathlib.Core.List.{List, [], _∷_, _++_, append-nil}
+use mathlib.Core.Path.{_≡_, refl, ap, sym, _∙_}
+use Prim.Native.Nat.{ℕ, zero, suc, _+_, _-_, _*_, _≤_, _<_}
+use native.Mathlib.Numerals.{add-one}
+use native.Mathlib.Omega.{arith}
+use borrow.Author.Tests.{le-leb, lt-leb}
+use lib.Dec.{T}
+use lib.Ieee.{Float}
+use lib.ListN.{length, length-replicate, getD, set, replicate, drop, drop-of-length-le}
+use lib.Seq.{drop-cons, set-at, append-snoc}
+use Rattle.laws.proofs.BoolLaws.{cond-elim}
+use Rattle.laws.specs.Bytes.{same}
+use Rattle.reader.specs.Entered.{toldIn}
+use Rattle.reader.specs.Lookup.{nameIn, latestIn}
+use Rattle.reader.specs.Seen.{lookedFor, draftIn, back}
+use Rattle.reader.specs.declared.state.Phase.{Phase as CodePhase}
+use Rattle.scene.specs.HouseRules.{zeroReal}
+use Rattle.scene.specs.Phase.{strings}
+use Rattle.scene.specs.Record.{width}
+use Rattle.reader.specs.declared.state.Phase.the-variants as is
+
+-- the first i entries overwritten by z
+unfoldable pub cleared : {A : Type 0} → A → List A → ℕ → List A
+cleared z xs i = replicate i z ++ drop i xs
+
+module _ {A : Type 0} (z : A) (xs : List A) where
+  pub cleared-none : xs ≡ cleared z xs 0
+  unfolding cleared
+  cleared-none = refl
+
+  pub cleared-more : (i : ℕ) → i < length xs → set (cleared z xs i) i z ≡ cleared z xs (i + 1)
+  unfolding cleared
+  cleared-more i h = ap {B = List A} (λ (y : List A). set (replicate i z ++ y) i z) (drop-cons xs i z h) ∙ set-at (replicate i z) (getD xs i z) (drop (suc i) xs) z i (length-replicate i z) ∙ sym (append-snoc (replicate i z) z (drop (suc i) xs)) ∙ (λ k. snoc i k ++ drop (sym (add-one i) k) xs)
+    where
+      snoc : (n : ℕ) → replicate n z ++ z ∷ [] ≡ replicate (n + 1) z
+      snoc zero = refl
+      snoc (suc n) = let e : suc (n + 1) ≡ suc n + 1 = omega arith in ap {B = List A} (λ (y : List A). z ∷ y) (snoc n) ∙ ap (λ (k : ℕ). replicate k z) e
+
+  pub cleared-all : (i : ℕ) → i ≡ length xs → cleared z xs i ≡ replicate (length xs) z
+  unfolding cleared
+  cleared-all i e = (λ k. replicate (e k) z ++ drop (e k) xs) ∙ ap {B = List A} (λ (y : List A). replicate (length xs) z ++ y) (drop-of-length-le xs {i = length xs} (omega arith)) ∙ append-nil (replicate (length xs) z)
+
+-- ---- the next of a name
+
+pub told-none : (t : List ℕ) (k v : ℕ) → k ≡ 0 → toldIn t k v ≡ t
+told-none t k v e = ap (λ (k : ℕ). toldIn t k v) e
+
+pub told-some : (t : List ℕ) (k v : ℕ) → (k ≡ 0 → ⊥) → toldIn t k v ≡ set t ((k - 1) * width + 9) v
+told-some t zero v h = absurd (h refl)
+told-some t (suc k) v h = let e : suc k - 1 ≡ k = omega arith in ap (λ (n : ℕ). set t (n * width + 9) v) (sym e)
+
+-- ---- a lookup's number
+
+pub latest-in-le : (text T w : List ℕ) (n : ℕ) → latestIn text T w n ≤ n
+unfolding latestIn
+latest-in-le text T w zero = omega arith
+latest-in-le text T w (suc n) = cond-elim (λ m. m ≤ suc n) (same w (nameIn text T n)) (omega arith) (let h = latest-in-le text T w n in omega arith)
+
+pub looked-le : (ph : CodePhase) (x n : ℕ) → x ≤ n → lookedFor ph x ≤ n
+looked-le is.Idle x n h = h
+looked-le is.Kind x n h = omega arith
+looked-le is.Name x n h = omega arith
+looked-le is.StringCount x n h = omega arith
+looked-le is.FirstString x n h = omega arith
+looked-le is.LaterString x n h = omega arith
+looked-le is.IntegerCount x n h = omega arith
+looked-le is.RealCount x n h = omega arith
+looked-le is.Real x n h = omega arith
+looked-le is.AliasName x n h = omega arith
+looked-le is.Target x n h = h
+
+-- ---- the record of a number
+
+pub draft-some : (t : List ℕ) (k : ℕ) → (k ≡ 0 → ⊥)
+    → record { kind = getD t ((k - 1) * width) 0; modifier = 0; target = 0; name = 0; size = 0; string = getD t ((k - 1) * width + 5) 0; strings = getD t ((k - 1) * width + 6) 0; real = getD t ((k - 1) * width + 7) 0; reals = getD t ((k - 1) * width + 8) 0 } ≡ draftIn t k
+draft-some t zero h = absurd (h refl)
+draft-some t (suc k) h = let e : suc k - 1 ≡ k = omega arith in ap (λ (k : ℕ). draftIn t (suc k)) e
+
+-- ---- a real before
+
+same-default : (D : List Float) (x y : Float) (n : ℕ) → n < length D → getD D n x ≡ getD D n y
+same-default [] x y n h = absurd (omega arith)
+same-default (a ∷ D) x y zero h = refl
+same-default (a ∷ D) x y (suc n) h = same-default D x y n (omega arith)
+
+pub back-some : (D : List Float) (o : Float) (u j : ℕ) → u ≤ length D → 1 ≤ j → j ≤ u → getD D (u - j) o ≡ back D u j
+unfolding back
+back-some D o u j h k l = rw (le-leb j u l) (same-default D o zeroReal (u - j) (omega arith))
+
+pub back-none : (D : List Float) (u j : ℕ) → u < j → zeroReal ≡ back D u j
+unfolding back
+back-none D u j h = rw (lt-leb j u h)
+
+-- ---- a row
+
+pub add-nine : (n : ℕ) → n + 9 ≡ suc (suc (suc (suc (suc (suc (suc (suc (suc n))))))))
+add-nine n = omega arith

@@ -1,0 +1,31 @@
+-- What the reader answers, and what it leaves in the lent tables.
+use mathlib.Core.List.{List}
+use mathlib.Core.Path.{_≡_}
+use Prim.Native.Nat.{ℕ}
+use lib.Ieee.{Float}
+use lib.ListN.{length}
+use Rattle.laws.specs.Bytes.{Bytes}
+use Rattle.reader.specs.declared.Answer.{Answer}
+use Rattle.reader.specs.declared.Answer.the-variants.{Accepted, Refused}
+use Rattle.scene.specs.Reading.{read, Reading, refused, accepted}
+use Rattle.scene.specs.Record.{records, answer, recordImage, realImage, realTable, rooms, Answer as Numbers}
+
+abbrev pub answered : Reading → Answer
+answered (refused n p) = Refused n p
+answered (accepted es) = Accepted (length es) (length (realTable es))
+
+-- document 01's number, place and counts of each answer
+abbrev pub numbersOf : Answer → Numbers
+numbersOf (Refused n p) = record { reason = n; place = p; primitives = 0; reals = 0 }
+numbersOf (Accepted n k) = record { reason = 0; place = 0; primitives = n; reals = k }
+
+-- what a text means in the rooms of two lent tables
+abbrev pub readInto : Bytes → List ℕ → List Float → Reading
+readInto text records reals = read (rooms (length records) (length reals)) text
+
+-- demands 1 and 2 of one call: the tables as they were lent, the answer, and the tables at exit
+pub record Reads (text : Bytes) (records : List ℕ) (reals : List Float) (r : Answer) (records′ : List ℕ) (reals′ : List Float) : Type 0 where
+  pub says : r ≡ answered (readInto text records reals)
+  pub numbers : numbersOf r ≡ answer (readInto text records reals)
+  pub table : records′ ≡ recordImage (length records) (readInto text records reals)
+  pub doubles : reals′ ≡ realImage (length reals) (readInto text records reals)

@@ -1,0 +1,78 @@
+-- The code's state as an image of the definition's.
+use mathlib.Core.List.{List, [], _∷_}
+use Prim.Native.Nat.{ℕ, suc, _+_}
+use lib.Ieee.{Float}
+use lib.ListN.{length}
+use Rattle.reader.specs.declared.state.Draft.{Draft}
+use Rattle.reader.specs.declared.state.Phase.{Phase as CodePhase}
+use Rattle.reader.specs.declared.state.State.{State}
+use Rattle.scene.specs.Links.{realsUsed, modifierLink}
+use Rattle.scene.specs.Phase.{real, atTarget, atStringCount, reals, Part, atAliasName, atString, strings, atReal, atRealCount, atType, atIntegerCount, Phase, atName, idle, busy}
+use Rattle.scene.specs.Reading.{Places}
+use Rattle.scene.specs.Statement.{numbers, Statement}
+use Rattle.reader.specs.declared.state.Phase.the-variants as is
+
+abbrev pub opened : ℕ → Draft
+opened l = record { kind = 0; modifier = l; target = 0; name = 0; size = 0; string = 0; strings = 0; real = 0; reals = 0 }
+
+abbrev pub movedTo : State → ℕ → State
+movedTo s n = record { at = n; count = s .count; used = s .used; left = s .left; phase = s .phase; draft = s .draft }
+
+-- between two statements
+abbrev pub between : ℕ → ℕ → ℕ → State
+between n c u = record { at = n; count = c; used = u; left = 0; phase = is.Idle; draft = opened 0 }
+
+abbrev pub phaseOf : Part → CodePhase
+phaseOf atType = is.Kind
+phaseOf (atName t) = is.Name
+phaseOf (atStringCount t n) = is.StringCount
+phaseOf (atString t n [] k) = is.FirstString
+phaseOf (atString t n (s ∷ ss) k) = is.LaterString
+phaseOf (atIntegerCount t n ss) = is.IntegerCount
+phaseOf (atRealCount t n ss) = is.RealCount
+phaseOf (atReal t n ss rs k) = is.Real
+phaseOf atAliasName = is.AliasName
+phaseOf (atTarget n) = is.Target
+
+abbrev pub leftOf : Part → ℕ
+leftOf atType = 0
+leftOf (atName t) = 0
+leftOf (atStringCount t n) = 0
+leftOf (atString t n ss k) = k
+leftOf (atIntegerCount t n ss) = 0
+leftOf (atRealCount t n ss) = 0
+leftOf (atReal t n ss rs k) = k
+leftOf atAliasName = 0
+leftOf (atTarget n) = 0
+
+-- the reals of the open statement so far
+abbrev pub partReals : Part → List Float
+partReals atType = []
+partReals (atName t) = []
+partReals (atStringCount t n) = []
+partReals (atString t n ss k) = []
+partReals (atIntegerCount t n ss) = []
+partReals (atRealCount t n ss) = []
+partReals (atReal t n ss rs k) = numbers rs
+partReals atAliasName = []
+partReals (atTarget n) = []
+
+abbrev pub openReals : Phase → List Float
+openReals idle = []
+openReals (busy m p) = partReals p
+
+-- the draft of a part: l the link, p the name's place, q the first string's, u the reals used above
+abbrev pub drafted : ℕ → ℕ → ℕ → ℕ → Part → Draft
+drafted l p q u atType = record { kind = 0; modifier = l; target = 0; name = p; size = 0; string = q; strings = 0; real = 0; reals = 0 }
+drafted l p q u (atName t) = record { kind = t; modifier = l; target = 0; name = p; size = 0; string = q; strings = 0; real = 0; reals = 0 }
+drafted l p q u (atStringCount t n) = record { kind = t; modifier = l; target = 0; name = p; size = length n; string = q; strings = 0; real = 0; reals = 0 }
+drafted l p q u (atString t n ss k) = record { kind = t; modifier = l; target = 0; name = p; size = length n; string = q; strings = length ss + suc k; real = 0; reals = 0 }
+drafted l p q u (atIntegerCount t n ss) = record { kind = t; modifier = l; target = 0; name = p; size = length n; string = q; strings = length ss; real = 0; reals = 0 }
+drafted l p q u (atRealCount t n ss) = record { kind = t; modifier = l; target = 0; name = p; size = length n; string = q; strings = length ss; real = 0; reals = 0 }
+drafted l p q u (atReal t n ss rs k) = record { kind = t; modifier = l; target = 0; name = p; size = length n; string = q; strings = length ss; real = u; reals = length rs + suc k }
+drafted l p q u atAliasName = record { kind = 0; modifier = l; target = 0; name = p; size = 0; string = q; strings = 0; real = 0; reals = 0 }
+drafted l p q u (atTarget n) = record { kind = 0; modifier = l; target = 0; name = p; size = length n; string = q; strings = 0; real = 0; reals = 0 }
+
+abbrev pub image : ℕ → List Statement → Phase → Places → State
+image n d idle k = between n (length d) (realsUsed d)
+image n d (busy m p) k = record { at = n; count = length d; used = realsUsed d + length (partReals p); left = leftOf p; phase = phaseOf p; draft = drafted (modifierLink m d) (k .name) (k .string) (realsUsed d) p }

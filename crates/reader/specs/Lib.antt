@@ -1,0 +1,9 @@
+pub mod Answer
+pub mod Lookup
+pub mod Image
+pub mod Seen
+pub mod Entered
+pub mod Steps
+pub mod Invariant
+pub mod Goes
+pub mod Exchange

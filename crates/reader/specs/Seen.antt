@@ -1,0 +1,57 @@
+-- What a step sees of the tables: the record looked up, and the two reals before.
+use mathlib.Core.Bool.{cond}
+use mathlib.Core.List.{List}
+use Prim.Native.Nat.{ℕ, zero, suc, _+_, _-_, _*_, _≤_}
+use lib.Dec.{leb}
+use lib.Ieee.{Float}
+use lib.ListN.{length, getD}
+use Rattle.laws.specs.Bytes.{Bytes, part}
+use Rattle.reader.specs.Image.{opened}
+use Rattle.reader.specs.Lookup.{latestIn, Searchable}
+use Rattle.reader.specs.declared.state.Draft.{Draft}
+use Rattle.reader.specs.declared.state.Phase.{Phase as CodePhase}
+use Rattle.reader.specs.declared.state.Seen.{Seen}
+use Rattle.reader.specs.declared.state.State.{State}
+use Rattle.scene.specs.HouseRules.{zeroReal}
+use Rattle.scene.specs.Links.{source}
+use Rattle.scene.specs.Phase.{real, strings}
+use Rattle.scene.specs.Reading.{first}
+use Rattle.scene.specs.Record.{width}
+use Rattle.reader.specs.declared.state.Phase.the-variants as is
+
+-- a word is looked up only as a modifier or as an alias target
+abbrev pub lookedFor : CodePhase → ℕ → ℕ
+lookedFor is.Idle x = x
+lookedFor is.Kind x = 0
+lookedFor is.Name x = 0
+lookedFor is.StringCount x = 0
+lookedFor is.FirstString x = 0
+lookedFor is.LaterString x = 0
+lookedFor is.IntegerCount x = 0
+lookedFor is.RealCount x = 0
+lookedFor is.Real x = 0
+lookedFor is.AliasName x = 0
+lookedFor is.Target x = x
+
+-- type, strings and reals of a record by its number
+abbrev pub draftIn : List ℕ → ℕ → Draft
+draftIn table zero = opened 0
+draftIn table (suc j) = record { kind = getD table (j * width) 0; modifier = 0; target = 0; name = 0; size = 0; string = getD table (j * width + 5) 0; strings = getD table (j * width + 6) 0; real = getD table (j * width + 7) 0; reals = getD table (j * width + 8) 0 }
+
+-- the real that stands j before the u-th
+unfoldable pub back : List Float → ℕ → ℕ → Float
+back reals u j = cond (leb j u) (getD reals (u - j) zeroReal) zeroReal
+
+abbrev pub seenBy : List ℕ → List Float → ℕ → ℕ → ℕ → ℕ → Seen
+seenBy table reals place len u found = record { place = place; name = place; size = len; used = u; found = found; source = draftIn table found; previous = back reals u 1; first = back reals u 2 }
+
+abbrev pub seenIn : Bytes → List ℕ → List Float → State → ℕ → ℕ → Seen
+seenIn text table reals s place len = seenBy table reals place len (s .used) (lookedFor (s .phase) (latestIn text table (part text place len) (s .count)))
+
+-- what looking asks
+pub record Looks (text : Bytes) (table : List ℕ) (reals : List Float) (s : State) (place len : ℕ) : Type 0 where
+  pub search : Searchable text table (s .count) place len
+  pub used : s .used ≤ length reals
+  pub small : s .used ≤ 4096
+  pub few : s .count ≤ 1024
+  pub short : length text ≤ 65536

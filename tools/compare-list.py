@@ -1,0 +1,51 @@
+#!/usr/bin/env python3
+"""Whether the program list and the reader of tools/scene.py print the same, on texts made from a seed and on those at the limits.
+
+    tools/compare-list.py [COUNT [SEED [PROGRAM]]]
+
+COUNT is 20000 and PROGRAM target/bin/list if not given. Prints how many texts were accepted or refused for each reason, and how
+many differ: the exit status is 1 if any does, or if a reason or the acceptance of a text turned up in none."""
+import collections
+import pathlib
+import subprocess
+import sys
+
+import scene
+import texts
+
+TOP = pathlib.Path(__file__).resolve().parent.parent
+REASONS = range(17)  # 0 is accepted
+
+
+def every_text(seed, count):
+    yield from texts.limits().values()
+    # One in a hundred is long.
+    long = count // 100
+    for text, _, _ in texts.texts(seed, long, 200):
+        yield text
+    for text, _, _ in texts.texts(seed + 1, count - long, 8):
+        yield text
+
+
+def reason_of(listing):
+    first = listing.split(b" ")[0]
+    return int(first[len(b"refused=") :]) if first.startswith(b"refused=") else 0
+
+
+count = int(sys.argv[1]) if len(sys.argv) > 1 else 20000
+seed = int(sys.argv[2]) if len(sys.argv) > 2 else 1
+program = sys.argv[3] if len(sys.argv) > 3 else str(TOP / "target/bin/list")
+reasons, differ = collections.Counter(), 0
+for text in every_text(seed, count):
+    right = scene.listing(text).encode()
+    reasons[reason_of(right)] += 1
+    run = subprocess.run([program], input=text, stdout=subprocess.PIPE)
+    if run.returncode != 0 or run.stdout != right:
+        differ += 1
+        if differ <= 5:
+            print("differs on %r: %r, not %r" % (text[:300], run.stdout[:300], right[:300]))
+for reason in REASONS:
+    print("%6d %s" % (reasons[reason], "refused=%d" % reason if reason else "accepted"))
+missed = [reason for reason in REASONS if reasons[reason] == 0]
+print("%d compared, %d differ%s" % (sum(reasons.values()), differ, ", not reached: %s" % missed if missed else ""))
+sys.exit(1 if differ or missed else 0)

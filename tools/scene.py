@@ -199,5 +199,34 @@ def listing(text, record_room=1024, real_room=4096):
     return "".join(lines)
 
 
+def finish(records, number):
+    """The first material on the way of modifiers, and how many links lead there."""
+    links, at = 0, records[number - 1][1]
+    while at:
+        links += 1
+        if 10 <= records[at - 1][0] <= 24:
+            break
+        at = records[at - 1][1]
+    return at, links
+
+
+def finishes(text, record_room=1024, real_room=4096):
+    records, reals = read(text, record_room, real_room)
+    if isinstance(records, int):
+        return "refused=%d place=%d\n" % (records, reals)
+
+    def name(number):
+        at, size = records[number - 1][3:5] if number else (0, 0)
+        return text[at : at + size].decode()
+
+    lines = []
+    for number, r in enumerate(records, 1):
+        if r[0] <= 9:
+            at, links = finish(records, number)
+            lines.append("no=%d type=%s name=%s finish=%d finish_name=%s links=%d\n" % (number, TYPES[r[0] - 1], name(number), at, name(at), links))
+    return "".join(lines)
+
+
 if __name__ == "__main__":
-    sys.stdout.write(listing(sys.stdin.buffer.read()))
+    answer = finishes if sys.argv[1:] == ["finishes"] else listing
+    sys.stdout.write(answer(sys.stdin.buffer.read()))

@@ -3,7 +3,8 @@ use mathlib.Core.List.{List, [], _∷_}
 use mathlib.Core.Path.{_≡_, refl}
 use Prim.Native.Nat.{ℕ}
 use Rattle.laws.specs.Bytes.{bytes}
-use Rattle.listing.specs.Listing.{digits, decimal, entryOf, headLine, lineOf, rowLine}
+use Rattle.finish.specs.Question.{fieldIn}
+use Rattle.listing.specs.Listing.{digits, decimal, headLine, lineOf, rowLine}
 use Rattle.listing.specs.Put.{put}
 use Rattle.scene.specs.Types.{kindOf, typeName}
 
@@ -19,12 +20,12 @@ abbrev table : List ℕ
 table = 15 ∷ 0 ∷ 0 ∷ 13 ∷ 4 ∷ 0 ∷ 0 ∷ 0 ∷ 5 ∷ 2 ∷ []
 
 pub first : rowLine (bytes "void plastic wall 0 0 5 .5 .5 .5 0 0") table 1 ≡ bytes "no=1 mod=0 alias=0 type=plastic name=wall next=2\n"
-unfolding rowLine entryOf lineOf typeName kindOf digits decimal
+unfolding rowLine fieldIn lineOf typeName kindOf digits decimal
 first = refl
 
 -- a record that the table does not have
 pub missing : rowLine [] table 1024 ≡ bytes "no=1024 mod=0 alias=0 type=source name= next=0\n"
-unfolding rowLine entryOf lineOf typeName kindOf digits decimal
+unfolding rowLine fieldIn lineOf typeName kindOf digits decimal
 missing = refl
 
 -- a number of ten digits

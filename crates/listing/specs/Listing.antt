@@ -1,12 +1,12 @@
 -- The lines of a listing.
 use mathlib.Core.Bool.{cond}
 use mathlib.Core.List.{List, [], _∷_, _++_}
-use Prim.Native.Nat.{ℕ, zero, suc, _+_, _*_, _-_, _/_, _%_}
+use Prim.Native.Nat.{ℕ, zero, suc, _+_, _/_, _%_}
 use Prim.Native.String.{String}
 use lib.Dec.{eqb}
-use lib.ListN.{getD}
 use Rattle.laws.specs.Bytes.{Bytes, byte, bytes, part}
-use Rattle.scene.specs.Record.{Answer, width}
+use Rattle.finish.specs.Question.{fieldIn}
+use Rattle.scene.specs.Record.{Answer}
 use Rattle.scene.specs.Types.{typeName}
 
 -- the last k digits of a number in base ten, without leading zeros
@@ -40,12 +40,16 @@ unfoldable pub lineOf : (number modifier target : ℕ) → (type name : Bytes) �
 lineOf number modifier target type name next =
     linksOf number modifier target type ++ bytes " name=" ++ name ++ field " next=" next ++ bytes "\n"
 
--- number k, from 0, of record n, from 1; 0 where the table has none
-unfoldable pub entryOf : List ℕ → ℕ → ℕ → ℕ
-entryOf table n k = getD table ((n - 1) * width + k) 0
-
 -- the line of record n of a text and its table
 unfoldable pub rowLine : Bytes → List ℕ → ℕ → Bytes
 rowLine text table n =
-    let entry = entryOf table n in
+    let entry = fieldIn table n in
     lineOf n (entry 1) (entry 2) (typeName (entry 0)) (part text (entry 3) (entry 4)) (entry 9)
+
+-- the line of a surface: its number, type and name, and then its finish with name and links; no finish has 0 and no name
+abbrev pub surfaceOf : (number : ℕ) → (type name : Bytes) → Bytes
+surfaceOf number type name = field "no=" number ++ bytes " type=" ++ type ++ bytes " name=" ++ name
+
+unfoldable pub finishLine : (number : ℕ) → (type name : Bytes) → (finish : ℕ) → (finishName : Bytes) → (links : ℕ) → Bytes
+finishLine number type name finish finishName links =
+    surfaceOf number type name ++ field " finish=" finish ++ bytes " finish_name=" ++ finishName ++ field " links=" links ++ bytes "\n"

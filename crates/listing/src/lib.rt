@@ -5,15 +5,12 @@ use buffer::put_bytes;
 use buffer::put_field;
 ghost use mathlib.Core.List.{_++_};
 ghost use mathlib.Core.Path.{_≡_};
-ghost use Prim.Native.Nat.{_-_, _≤_, min};
+ghost use Prim.Native.Nat.{_≤_, min};
 ghost use lib.ListN.{length};
 ghost use Rattle.laws.specs.Bytes.{bytes};
-ghost use Rattle.listing.specs.Listing.{decimal, entryOf, headLine, lineOf, linksOf, rowLine};
+ghost use Rattle.listing.specs.Listing.{decimal, finishLine, headLine, lineOf, linksOf, rowLine, surfaceOf};
 ghost use Rattle.listing.specs.Put.{put, behind};
 ghost use Rattle.scene.specs.Types.{typeName};
-
-// How many numbers a record has.
-const WIDTH: usize = 10;
 
 // The first line of a listing, as much of it as the buffer holds. Answers how many bytes that is.
 pub fn head_line(
@@ -50,41 +47,18 @@ pub fn row_line(out: &mut [u8], text: &[u8], records: &[u32], n: usize) -> usize
 {
     let name = lexer::part(
         text,
-        entry(records, n, 3) as usize,
-        entry(records, n, 4) as usize,
+        finish::field(records, n, 3) as usize,
+        finish::field(records, n, 4) as usize,
     );
     put_line(
         out,
         n,
-        entry(records, n, 1),
-        entry(records, n, 2),
-        entry(records, n, 0),
+        finish::field(records, n, 1),
+        finish::field(records, n, 2),
+        finish::field(records, n, 0),
         name,
-        entry(records, n, 9),
+        finish::field(records, n, 9),
     )
-}
-
-// The index of row n, from 1; that of row 1 for 0.
-fn row_of(n: usize) -> usize
-    ensures { λ r. ⌜ r ≡ n - 1 ⌝ }
-{
-    if n == 0 { 0 } else { n - 1 }
-}
-
-// Number k, from 0, of record n, from 1; 0 where the table has none.
-fn entry(records: &[u32], n: usize, k: usize) -> u32
-    requires { ⌜ k ≤ 9 ⌝ }
-    ensures { λ r. ⌜ r ≡ entryOf (now (records .entry)) n k ⌝ }
-{
-    let row = row_of(n);
-    if records.len() / WIDTH < row {
-        return 0;
-    }
-    let at = row * WIDTH + k;
-    if records.len() <= at {
-        return 0;
-    }
-    records[at]
 }
 
 // A record's line.
@@ -127,4 +101,37 @@ fn put_type_name(out: &mut [u8], at: usize, t: u32) -> usize
     let name = kinds::type_name(t);
     let bytes = name.0;
     put_bytes(out, at, lexer::part(&bytes, 0, name.1))
+}
+
+// The line of a surface with its finish, as much of it as the buffer holds. Answers how many bytes that is.
+pub fn finish_line(
+    out: &mut [u8],
+    n: usize,
+    kind: u32,
+    name: &[u8],
+    finish: usize,
+    material: &[u8],
+    links: usize,
+) -> usize
+    ensures { λ _. ⌜ now (out .exit) ≡ put (now (out .entry)) 0 (finishLine n (typeName kind) (now (name .entry)) finish (now (material .entry)) links) ⌝ }
+    ensures { λ r. ⌜ r ≡ min (length (finishLine n (typeName kind) (now (name .entry)) finish (now (material .entry)) links)) (length (now (out .entry))) ⌝ }
+{
+    let mut at = put_surface(out, n, kind, name);
+    at = put_field(out, at, b" finish=", finish);
+    at = put_bytes(out, at, b" finish_name=");
+    at = put_bytes(out, at, material);
+    at = put_field(out, at, b" links=", links);
+    put_bytes(out, at, b"\n")
+}
+
+// A surface's line as far as its name.
+fn put_surface(out: &mut [u8], n: usize, kind: u32, name: &[u8]) -> usize
+    ensures { λ _. ⌜ now (out .exit) ≡ put (now (out .entry)) 0 (surfaceOf n (typeName kind) (now (name .entry))) ⌝ }
+    ensures { λ r. ⌜ r ≡ behind (now (out .entry)) 0 (surfaceOf n (typeName kind) (now (name .entry))) ⌝ }
+{
+    let mut at = put_field(out, 0, b"no=", n);
+    at = put_bytes(out, at, b" type=");
+    at = put_type_name(out, at, kind);
+    at = put_bytes(out, at, b" name=");
+    put_bytes(out, at, name)
 }

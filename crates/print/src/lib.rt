@@ -1,11 +1,13 @@
-// The listing of a scene text, on standard output.
+// The listing of a scene text, and the finishes of its surfaces, on standard output.
+use finish::Finish;
 use libc::STDIN_FILENO;
 use libc::STDOUT_FILENO;
 use reader::Answer;
-ghost use Prim.Native.Nat.{_≤_};
+ghost use Prim.Native.Nat.{_+_, _≤_};
 ghost use lib.ListN.{length};
 
-// Enough for any line: four numbers have 20 digits each at most, a type 10 bytes, a name 64, and the rest 34.
+// Enough for any line. The longest is a finish: three numbers of 20 digits at most, a type of 10 bytes, two names of 64, and
+// 44 more.
 const LINE: usize = 256;
 
 fn write_line(line: &[u8], n: usize)
@@ -49,14 +51,80 @@ fn list_text(text: &[u8]) {
     }
 }
 
-// Lists the text on standard input. One byte past the buffer tells a text that is too long from one that just fits.
-pub fn list_input() {
-    let mut text = [0u8; 65536];
-    let n = io::read_full(STDIN_FILENO, &mut text);
+// The line of a surface; nothing for other types. No walk needs more links than there are primitives.
+fn print_finish(text: &[u8], records: &[u32], count: usize, n: usize) {
+    let kind = finish::field(records, n, 0);
+    if (kind == 0) | (9 < kind) {
+        return;
+    }
+    match finish::finish_of(records, count, n, count) {
+        Finish::Reached(material, links) => {
+            let mut line = [0u8; LINE];
+            let name = finish::name(text, records, count, n);
+            let finish_name = finish::name(text, records, count, material);
+            let size = listing::finish_line(&mut line, n, kind, name, material, finish_name, links);
+            write_line(&line, size);
+        }
+        Finish::Refused(reason, _) => {
+            print_head(reason, 0, 0, 0);
+        }
+    }
+}
+
+fn print_finishes(text: &[u8], records: &[u32], count: usize) {
+    let mut n = 0;
+    while n < count {
+        n += 1;
+        print_finish(text, records, count, n);
+    }
+}
+
+// Prints the finish of each surface of a text, or the reason for refusing it and the place.
+fn finish_text(text: &[u8]) {
+    let mut records = [0u32; 10240];
+    let mut reals = [0.0f64; 4096];
+    match reader::read(text, &mut records, &mut reals) {
+        Answer::Accepted(primitives, _) => {
+            print_finishes(text, &records, primitives);
+        }
+        Answer::Refused(reason, place) => {
+            print_head(reason, place, 0, 0);
+        }
+    }
+}
+
+// Reads standard input, and how many bytes it has: one byte past the buffer tells a text that is too long from one that
+// just fits.
+fn read_text(text: &mut [u8]) -> usize
+    requires { ⌜ length (now text) ≤ 65536 ⌝ }
+    ensures { λ r. ⌜ r ≤ length (now (text .entry)) + 1 ⌝ }
+{
+    let n = io::read_full(STDIN_FILENO, text);
     let mut more = [0u8; 1];
     if 0 < io::read_full(STDIN_FILENO, &mut more) {
+        return text.len() + 1;
+    }
+    n
+}
+
+// Lists the text on standard input.
+pub fn list_input() {
+    let mut text = [0u8; 65536];
+    let n = read_text(&mut text);
+    if 65536 < n {
         print_head(1, 0, 0, 0);
         return;
     }
     list_text(&text[..n]);
+}
+
+// Shows the finishes of the text on standard input.
+pub fn finishes_input() {
+    let mut text = [0u8; 65536];
+    let n = read_text(&mut text);
+    if 65536 < n {
+        print_head(1, 0, 0, 0);
+        return;
+    }
+    finish_text(&text[..n]);
 }

@@ -1,34 +1,17 @@
 -- Demand 3 of the running reader: its answers and tables on a text and on the exchanged one.
 use mathlib.Core.List.{List, _++_}
 use mathlib.Core.Path.{_≡_}
-use Prim.Native.Nat.{ℕ, _+_, _-_, _*_, _≤_, _<_}
+use Prim.Native.Nat.{ℕ, _≤_, _<_}
 use lib.Ieee.{Float}
-use lib.ListN.{length, getD, take}
+use lib.ListN.{length, take}
 use Rattle.laws.specs.Bytes.{Bytes}
 use Rattle.reader.specs.Answer.{Reads}
 use Rattle.reader.specs.declared.Answer.{Answer}
 use Rattle.reader.specs.declared.Answer.the-variants.{Accepted}
 use Rattle.scene.specs.Exchange.{Exchange, exchangeShift}
 use Rattle.scene.specs.Reading.{Entry}
-use Rattle.scene.specs.Record.{Record, width, rooms}
+use Rattle.scene.specs.Record.{recordIn, rooms}
 use Rattle.scene.specs.Told.{tells, renumbered}
-
--- record n of a table of numbers, from 1
-unfoldable pub recordIn : List ℕ → ℕ → Record
-recordIn table n =
-    let at = (n - 1) * width in
-    record {
-      type = getD table (at + 0) 0;
-      modifier = getD table (at + 1) 0;
-      target = getD table (at + 2) 0;
-      name = getD table (at + 3) 0;
-      nameLength = getD table (at + 4) 0;
-      string = getD table (at + 5) 0;
-      strings = getD table (at + 6) 0;
-      real = getD table (at + 7) 0;
-      reals = getD table (at + 8) 0;
-      next = getD table (at + 9) 0;
-    }
 
 -- The second call accepts with the counts of the first, and what its text and tables tell of record f i is what the first's
 -- tell of record i, with modifier link, alias target and next renumbered

@@ -1,11 +1,14 @@
--- The table as ten numbers to a record: one number of it, and a next that is set.
+-- The table as ten numbers to a record: one number of it, a next that is set, and a record read from it.
 use mathlib.Core.List.{List, [], _∷_, _++_}
-use mathlib.Core.Path.{_≡_, refl, ap, _∙_}
-use Prim.Native.Nat.{ℕ, zero, suc, _+_, _*_, _<_}
+use mathlib.Core.Logic.{_⊎_, inl, inr}
+use mathlib.Core.Path.{sym, _≡_, refl, ap, _∙_}
+use Prim.Native.Nat.{_-_, _≤_, ℕ, zero, suc, _+_, _*_, _<_}
 use native.Mathlib.Omega.{arith}
-use lib.ListN.{length, set, getD, List·getD-append}
+use lib.Dec.{lit<}
+use lib.ListN.{replicate, length, set, getD, List·getD-append}
 use lib.Seq.{getD-append-add}
-use Rattle.scene.specs.Record.{Record, fields, nothing, width, flat}
+use Rattle.laws.proofs.NatLaws.{le-or-lt}
+use Rattle.scene.specs.Record.{recordIn, nth, filled, Record, fields, nothing, width, flat}
 
 -- a record with its next set
 abbrev pub withNext : Record → ℕ → Record
@@ -40,3 +43,43 @@ pub flat-snoc : (rs : List Record) (r : Record) → flat (rs ++ r ∷ []) ≡ fl
 unfolding flat
 flat-snoc [] r = refl
 flat-snoc (q ∷ rs) r = ap {B = List ℕ} (λ (z : List ℕ). fields q ++ z) (flat-snoc rs r)
+
+-- ---- a record read from the table
+
+-- past its end a list has the default
+beyond : (l : List ℕ) (j : ℕ) → length l ≤ j → getD l j 0 ≡ 0
+beyond [] j h = refl
+beyond (x ∷ l) zero h = absurd (omega arith)
+beyond (x ∷ l) (suc j) h = beyond l j (omega arith)
+
+zeros : (k j : ℕ) → _≡_ {A = ℕ} (getD (replicate k 0) j 0) 0
+zeros zero j = refl
+zeros (suc k) zero = refl
+zeros (suc k) (suc j) = zeros k j
+
+-- zeros behind a table are not seen
+padded : (l : List ℕ) (k j : ℕ) → getD (l ++ replicate k 0) j 0 ≡ getD l j 0
+padded [] k j = zeros k j
+padded (x ∷ l) k zero = refl
+padded (x ∷ l) k (suc j) = padded l k j
+
+-- number j of record k, also where there is no such record
+flat-any : (rs : List Record) (k j : ℕ) → j < width → getD (fields nothing) j 0 ≡ 0 → getD (flat rs) (k * width + j) 0 ≡ getD (fields (getD rs k nothing)) j 0
+flat-any rs k j l z = go (le-or-lt (length rs) k)
+  where
+    go : (length rs ≤ k) ⊎ (k < length rs) → getD (flat rs) (k * width + j) 0 ≡ getD (fields (getD rs k nothing)) j 0
+    go (inl h) = beyond (flat rs) (k * width + j) (omega (arith, flat-length rs)) ∙ sym z ∙ ap (λ (r : Record). getD (fields r) j 0) (sym (absent rs k h))
+      where
+        absent : (rs : List Record) (k : ℕ) → length rs ≤ k → getD rs k nothing ≡ nothing
+        absent [] k h = refl
+        absent (r ∷ rs) zero h = absurd (omega arith)
+        absent (r ∷ rs) (suc k) h = absent rs k (omega arith)
+    go (inr h) = flat-at rs k j h l
+
+-- the table as it is read is the records
+pub record-in : (rs : List Record) (m n : ℕ) → recordIn (filled 0 m (flat rs)) n ≡ nth rs n
+unfolding recordIn nth
+record-in rs m n = λ i. record { type = cell 0 (lit< tt) refl i; modifier = cell 1 (lit< tt) refl i; target = cell 2 (lit< tt) refl i; name = cell 3 (lit< tt) refl i; nameLength = cell 4 (lit< tt) refl i; string = cell 5 (lit< tt) refl i; strings = cell 6 (lit< tt) refl i; real = cell 7 (lit< tt) refl i; reals = cell 8 (lit< tt) refl i; next = cell 9 (lit< tt) refl i }
+  where
+    cell : (j : ℕ) → j < width → getD (fields nothing) j 0 ≡ 0 → getD (filled 0 m (flat rs)) ((n - 1) * width + j) 0 ≡ getD (fields (getD rs (n - 1) nothing)) j 0
+    cell j l z = padded (flat rs) (m - length (flat rs)) ((n - 1) * width + j) ∙ flat-any rs (n - 1) j l z

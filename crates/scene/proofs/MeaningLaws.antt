@@ -234,7 +234,7 @@ resolved-type (s ∷ d) l m x e = go (hits x s) e (resolved-type d (l .1) (m .1)
     go true e ih = own (s .body) refl e ih
     go false e ih = ih x e
 
-meant-split : (l : List Statement) (s : Statement) (d : List Statement) → AllMeant (l ++ s ∷ d) → Meant (s .body) × AllMeant d
+pub meant-split : (l : List Statement) (s : Statement) (d : List Statement) → AllMeant (l ++ s ∷ d) → Meant (s .body) × AllMeant d
 meant-split [] s d h = h
 meant-split (x ∷ l) s d h = meant-split l s d (h .1)
 

@@ -1,7 +1,7 @@
 -- The linked table: a record of ten numbers for each statement, the reals, and both as they stand in the lent tables.
 use mathlib.Core.Bool.{cond}
 use mathlib.Core.List.{List, [], _∷_, _++_}
-use Prim.Native.Nat.{ℕ, suc, _-_, _/_, min}
+use Prim.Native.Nat.{ℕ, suc, _+_, _-_, _*_, _/_, min}
 use lib.Dec.{eqb}
 use lib.Ieee.{Float}
 use lib.ListN.{length, getD, replicate}
@@ -97,6 +97,23 @@ reals (s ∷ d) = reals d ++ realsIn (s .body)
 
 abbrev pub realTable : List Entry → List Float
 realTable es = reals (statements es)
+
+-- record n of a table of numbers, from 1
+unfoldable pub recordIn : List ℕ → ℕ → Record
+recordIn table n =
+    let at = (n - 1) * width in
+    record {
+      type = getD table (at + 0) 0;
+      modifier = getD table (at + 1) 0;
+      target = getD table (at + 2) 0;
+      name = getD table (at + 3) 0;
+      nameLength = getD table (at + 4) 0;
+      string = getD table (at + 5) 0;
+      strings = getD table (at + 6) 0;
+      real = getD table (at + 7) 0;
+      reals = getD table (at + 8) 0;
+      next = getD table (at + 9) 0;
+    }
 
 -- ---- the lent tables
 

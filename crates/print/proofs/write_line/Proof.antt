@@ -1,7 +1,7 @@
 -- `print::write_line` is safe.
 use native.Mathlib.Omega.{arith}
-use lib.ListN.{length-take}
 use borrow.Author.Needs.{needs}
+use lib.ListN.{length-take}
 use Rattle.print.proofs.write_line.Statement.{statement}
 use Rattle.print.proofs.write_line.Tie as tie
 

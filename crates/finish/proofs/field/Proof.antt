@@ -1,17 +1,10 @@
--- `listing::entry` meets its contract.
-use mathlib.Core.List.{List}
-use mathlib.Core.Path.{_≡_, sym}
-use Prim.Native.Nat.{ℕ, _+_, _*_, _-_, _≤_}
+-- `finish::field` meets its contract.
 use native.Mathlib.Omega.{arith}
-use lib.ListN.{length, List·getD-eq-default}
-use Rattle.listing.specs.Listing.{entryOf}
 use borrow.Author.Needs.{needs}
-use Rattle.listing.proofs.entry.Statement.{statement}
-use Rattle.listing.proofs.entry.Tie as tie
-
-none-at : (table : List ℕ) (n k : ℕ) → length table ≤ (n - 1) * 10 + k → 0 ≡ entryOf table n k
-unfolding entryOf
-none-at table n k h = sym (List·getD-eq-default table 0 h)
+use Rattle.finish.proofs.QuestionLaws.{none-at}
+use Rattle.finish.specs.Question.{fieldIn}
+use Rattle.finish.proofs.field.Statement.{statement}
+use Rattle.finish.proofs.field.Tie as tie
 
 row-of-requires : tie.Need-row-of-requires
 row-of-requires c κs = search needs
@@ -22,11 +15,17 @@ returns c = none-at (c .before .before .before .args .records .now) (c .before .
 mul-at : tie.Need-mul-at
 mul-at c = search needs
 
-add-at : tie.Need-add-at
-add-at c = search needs
-
 returns-2 : tie.Need-returns-2
 returns-2 c = none-at (c .before .before .before .before .args .records .now) (c .before .before .before .before .args .n) (c .before .before .before .before .args .k) (omega arith)
+
+sub-if3 : tie.Need-sub-if3
+sub-if3 c = search needs
+
+returns-3 : tie.Need-returns-3
+returns-3 c = none-at (c .before .before .before .before .before .args .records .now) (c .before .before .before .before .before .args .n) (c .before .before .before .before .before .args .k) (omega arith)
+
+add-result : tie.Need-add-result
+add-result c = search needs
 
 mul-result : tie.Need-mul-result
 mul-result c = search needs
@@ -34,19 +33,21 @@ mul-result c = search needs
 shared-slice-read-result : tie.Need-shared-slice-read-result
 shared-slice-read-result c = search needs
 
-returns-3 : tie.Need-returns-3
-unfolding entryOf
-returns-3 c = rw (c .before .before .before .row-of .ensures)
+returns-4 : tie.Need-returns-4
+unfolding fieldIn
+returns-4 c = rw (c .before .before .before .before .row-of .ensures)
 
-pub entry-spec : {M : Type 1} → statement M
-entry-spec =
+pub field-spec : {M : Type 1} → statement M
+field-spec =
     tie.close
     (tie.spec
     row-of-requires
     returns
     mul-at
-    add-at
     returns-2
+    sub-if3
+    returns-3
+    add-result
     mul-result
     shared-slice-read-result
-    returns-3)
+    returns-4)

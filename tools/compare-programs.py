@@ -1,10 +1,10 @@
 #!/usr/bin/env python3
-"""Whether the program list and the reader of tools/scene.py print the same, on texts made from a seed and on those at the limits.
+"""Whether the programs list and finishes print what tools/scene.py does, on texts made from a seed and on those at the limits.
 
-    tools/compare-list.py [COUNT [SEED [PROGRAM]]]
+    tools/compare-programs.py [COUNT [SEED [FOLDER]]]
 
-COUNT is 20000 and PROGRAM target/bin/list if not given. Prints how many texts were accepted or refused for each reason, and how
-many differ: the exit status is 1 if any does, or if a reason or the acceptance of a text turned up in none."""
+COUNT is 20000 and FOLDER target/bin if not given. Prints how many texts were accepted or refused for each reason, and how many
+differ in what a program prints: the exit status is 1 if any does, or if a reason or the acceptance of a text turned up in none."""
 import collections
 import pathlib
 import subprocess
@@ -34,16 +34,17 @@ def reason_of(listing):
 
 count = int(sys.argv[1]) if len(sys.argv) > 1 else 20000
 seed = int(sys.argv[2]) if len(sys.argv) > 2 else 1
-program = sys.argv[3] if len(sys.argv) > 3 else str(TOP / "target/bin/list")
+folder = pathlib.Path(sys.argv[3]) if len(sys.argv) > 3 else TOP / "target/bin"
 reasons, differ = collections.Counter(), 0
 for text in every_text(seed, count):
     right = scene.listing(text).encode()
     reasons[reason_of(right)] += 1
-    run = subprocess.run([program], input=text, stdout=subprocess.PIPE)
-    if run.returncode != 0 or run.stdout != right:
-        differ += 1
-        if differ <= 5:
-            print("differs on %r: %r, not %r" % (text[:300], run.stdout[:300], right[:300]))
+    for program, right in ("list", right), ("finishes", scene.finishes(text).encode()):
+        run = subprocess.run([folder / program], input=text, stdout=subprocess.PIPE)
+        if run.returncode != 0 or run.stdout != right:
+            differ += 1
+            if differ <= 5:
+                print("%s differs on %r: %r, not %r" % (program, text[:300], run.stdout[:300], right[:300]))
 for reason in REASONS:
     print("%6d %s" % (reasons[reason], "refused=%d" % reason if reason else "accepted"))
 missed = [reason for reason in REASONS if reasons[reason] == 0]

@@ -1,0 +1,4 @@
+pub mod QuestionLaws
+pub mod WalkLaws
+pub mod BoundLaws
+pub mod MeaningLaws

@@ -1,0 +1,4 @@
+pub mod Question
+pub mod Walk
+pub mod Meaning
+pub mod Follow

@@ -1,0 +1,42 @@
+-- The finish walk: a chain of modifier links.
+use mathlib.Core.Bool.{_&&_, cond}
+use mathlib.Core.List.{List}
+use Prim.Native.Nat.{ℕ, zero, suc}
+use lib.Dec.{eqb, leb, ltb}
+use Rattle.scene.specs.Record.{recordIn}
+use Rattle.scene.specs.Types.{isMaterial}
+use Rattle.finish.specs.declared.Finish.{Finish}
+use Rattle.finish.specs.declared.Finish.the-variants.{Reached, Refused}
+use Rattle.finish.specs.Question.{asked}
+
+-- document 01's number, primitive and count of each answer: "Refusals name primitive 0"
+pub record Numbers : Type 0 where
+  pub reason : ℕ
+  pub primitive : ℕ
+  pub links : ℕ
+
+abbrev pub numbersOf : Finish → Numbers
+numbersOf (Reached p k) = record { reason = 0; primitive = p; links = k }
+numbersOf (Refused r k) = record { reason = r; primitive = 0; links = k }
+
+-- "At a link: 0 answers, then link order (18)": what the link of primitive n comes to, after k links; else what follows
+abbrev pub atLink : (link n k : ℕ) → Finish → Finish
+atLink zero n k further = Reached 0 k
+atLink (suc m) n k further = cond (ltb (suc m) n) further (Refused 18 0)
+
+-- "then the reached type (18)": primitive m of type t, reached by k links; "a reached surface or mixfunc is passed through"
+abbrev pub atType : (t m k : ℕ) → Finish → Finish
+atType t m k further = cond (leb 1 t && leb t 25) (cond (isMaterial t) (Reached m k) further) (Refused 18 0)
+
+-- the chain from primitive n on, after k links, with `left` more allowed; "19: another link is needed and the allowance is used
+-- up; the count is then the allowance"
+unfoldable pub walkFrom : List ℕ → (left k n : ℕ) → Finish
+walkFrom table zero k n = atLink (recordIn table n .modifier) n k (Refused 19 k)
+walkFrom table (suc left) k n =
+    let m = recordIn table n .modifier in
+    let further = walkFrom table left (suc k) m in
+    atLink m n k (atType (recordIn table m .type) m (suc k) further)
+
+-- the finish walk from a primitive
+unfoldable pub finishOf : List ℕ → (count number allowance : ℕ) → Finish
+finishOf table count n allowance = let walk = walkFrom table allowance 0 n in cond (eqb (asked table count n) 0) walk (Refused (asked table count n) 0)

@@ -9,8 +9,8 @@ use lib.Dec.{eqb, leb}
 use lib.ListN.{length, drop, length-take, length-drop, List·getD-eq-default}
 use Rattle.laws.proofs.BoolLaws.{and-left, and-right}
 use Rattle.laws.specs.Bytes.{Bytes, part}
-use Rattle.finish.specs.Question.{asked, fieldIn, nameIn, nameRefusal, nameTest}
-use Rattle.scene.specs.Record.{recordIn}
+use Rattle.finish.specs.Question.{asked, nameIn, nameRefusal, nameTest}
+use Rattle.scene.specs.Record.{fieldIn, recordIn}
 
 -- ---- the numbers of a record
 

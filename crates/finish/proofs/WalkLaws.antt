@@ -8,14 +8,14 @@ use borrow.Author.Tests.{le-leb, lt-leb, lt-ltb, le-ltb, eq-eqb, ne-eqb}
 use lib.Dec.{leb}
 use Rattle.finish.proofs.QuestionLaws.{modifier-field, type-field}
 use Rattle.finish.specs.Follow.{Follows, reachedOf}
-use Rattle.finish.specs.Question.{asked, fieldIn}
+use Rattle.finish.specs.Question.{asked}
 use Rattle.finish.specs.Walk.{atLink, atType, finishOf, walkFrom}
 use Rattle.finish.specs.declared.Finish.{Finish}
 use Rattle.finish.specs.declared.Finish.the-variants.{Reached, Refused}
 use Rattle.finish.specs.declared.Link.{Link}
 use Rattle.finish.specs.declared.Link.the-variants.{Ended, On}
-use Rattle.scene.specs.Record.{recordIn}
-use Rattle.scene.specs.Types.{isMaterial}
+use Rattle.scene.specs.Record.{fieldIn, recordIn}
+use Rattle.scene.specs.Types.{isMaterial, isType}
 
 -- ---- what a type comes to
 
@@ -94,7 +94,7 @@ module _ (table : List ℕ) (n k allowance link : ℕ) (at : link ≡ fieldIn ta
 
   on-type : (t : ℕ) → link < n → k < allowance → walkFrom table (allowance - k) k n ≡ atType t link (k + 1) (walkFrom table (allowance - (k + 1)) (k + 1) link) → Follows table n k allowance (reachedOf t link (k + 1))
   unfolding reachedOf
-  on-type t h a e = go (leb 1 t && leb t 25) (isMaterial t) e
+  on-type t h a e = go (isType t) (isMaterial t) e
     where
       go : (b c : Bool) → walkFrom table (allowance - k) k n ≡ cond b (cond c (Reached link (k + 1)) (walkFrom table (allowance - (k + 1)) (k + 1) link)) (Refused 18 0) → Follows table n k allowance (cond b (cond c (Ended (Reached link (k + 1))) (On link)) (Ended (Refused 18 0)))
       go true true e = e

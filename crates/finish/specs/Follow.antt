@@ -1,18 +1,17 @@
 -- One link of the finish walk.
-use mathlib.Core.Bool.{_&&_, cond}
+use mathlib.Core.Bool.{cond}
 use mathlib.Core.List.{List}
 use mathlib.Core.Path.{_≡_}
 use Prim.Native.Nat.{ℕ, _+_, _-_, _<_}
-use lib.Dec.{leb}
 use Rattle.finish.specs.Walk.{walkFrom}
 use Rattle.finish.specs.declared.Finish.the-variants.{Reached, Refused}
 use Rattle.finish.specs.declared.Link.{Link}
 use Rattle.finish.specs.declared.Link.the-variants.{Ended, On}
-use Rattle.scene.specs.Types.{isMaterial}
+use Rattle.scene.specs.Types.{isMaterial, isType}
 
 -- what primitive m of type t comes to, reached by k links
 unfoldable pub reachedOf : (t m k : ℕ) → Link
-reachedOf t m k = cond (leb 1 t && leb t 25) (cond (isMaterial t) (Ended (Reached m k)) (On m)) (Ended (Refused 18 0))
+reachedOf t m k = cond (isType t) (cond (isMaterial t) (Ended (Reached m k)) (On m)) (Ended (Refused 18 0))
 
 -- the walk from primitive n, after k links, ends here, or goes on from an earlier primitive
 abbrev pub Follows : List ℕ → (n k allowance : ℕ) → Link → Type 0

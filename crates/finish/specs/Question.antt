@@ -1,15 +1,11 @@
 -- Questions to a finished table, whose numbers may be anything at all.
 use mathlib.Core.Bool.{_&&_, cond}
 use mathlib.Core.List.{List, []}
-use Prim.Native.Nat.{ℕ, _+_, _*_, _-_}
+use Prim.Native.Nat.{ℕ, _+_, _*_}
 use lib.Dec.{eqb, leb}
-use lib.ListN.{length, getD}
+use lib.ListN.{length}
 use Rattle.laws.specs.Bytes.{Bytes, part}
 use Rattle.scene.specs.Record.{recordIn, width}
-
--- number k, from 0, of record n, from 1; 0 where the table has none
-unfoldable pub fieldIn : List ℕ → (n k : ℕ) → ℕ
-fieldIn table n k = getD table ((n - 1) * width + k) 0
 
 -- "18: stated count over 1,024 or more than the table holds (tested first, before 17)"; "17: primitive number is 0 or above the
 -- stated count"; 0 where the primitive can be asked about

@@ -1,10 +1,10 @@
 -- The finish walk: a chain of modifier links.
-use mathlib.Core.Bool.{_&&_, cond}
+use mathlib.Core.Bool.{cond}
 use mathlib.Core.List.{List}
 use Prim.Native.Nat.{ℕ, zero, suc}
-use lib.Dec.{eqb, leb, ltb}
+use lib.Dec.{eqb, ltb}
 use Rattle.scene.specs.Record.{recordIn}
-use Rattle.scene.specs.Types.{isMaterial}
+use Rattle.scene.specs.Types.{isMaterial, isType}
 use Rattle.finish.specs.declared.Finish.{Finish}
 use Rattle.finish.specs.declared.Finish.the-variants.{Reached, Refused}
 use Rattle.finish.specs.Question.{asked}
@@ -26,7 +26,7 @@ atLink (suc m) n k further = cond (ltb (suc m) n) further (Refused 18 0)
 
 -- "then the reached type (18)": primitive m of type t, reached by k links; "a reached surface or mixfunc is passed through"
 abbrev pub atType : (t m k : ℕ) → Finish → Finish
-atType t m k further = cond (leb 1 t && leb t 25) (cond (isMaterial t) (Reached m k) further) (Refused 18 0)
+atType t m k further = cond (isType t) (cond (isMaterial t) (Reached m k) further) (Refused 18 0)
 
 -- the chain from primitive n on, after k links, with `left` more allowed; "19: another link is needed and the allowance is used
 -- up; the count is then the allowance"

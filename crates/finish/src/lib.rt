@@ -2,8 +2,9 @@
 ghost use mathlib.Core.Path.{_≡_};
 ghost use Prim.Native.Nat.{_-_};
 ghost use Rattle.finish.specs.Follow.{Follows, reachedOf};
-ghost use Rattle.finish.specs.Question.{asked, fieldIn, nameIn, nameRefusal, nameTest};
+ghost use Rattle.finish.specs.Question.{asked, nameIn, nameRefusal, nameTest};
 ghost use Rattle.finish.specs.Walk.{finishOf, walkFrom};
+ghost use Rattle.scene.specs.Record.{fieldIn};
 
 // How many numbers a record has.
 const WIDTH: usize = 10;

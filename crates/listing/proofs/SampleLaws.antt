@@ -3,9 +3,9 @@ use mathlib.Core.List.{List, [], _∷_}
 use mathlib.Core.Path.{_≡_, refl}
 use Prim.Native.Nat.{ℕ}
 use Rattle.laws.specs.Bytes.{bytes}
-use Rattle.finish.specs.Question.{fieldIn}
 use Rattle.listing.specs.Listing.{digits, decimal, headLine, lineOf, rowLine}
 use Rattle.listing.specs.Put.{put}
+use Rattle.scene.specs.Record.{fieldIn}
 use Rattle.scene.specs.Types.{kindOf, typeName}
 
 pub accepted : headLine (record { reason = 0; place = 0; primitives = 4; reals = 14 }) ≡ bytes "primitives=4 reals=14\n"

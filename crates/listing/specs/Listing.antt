@@ -5,8 +5,7 @@ use Prim.Native.Nat.{ℕ, zero, suc, _+_, _/_, _%_}
 use Prim.Native.String.{String}
 use lib.Dec.{eqb}
 use Rattle.laws.specs.Bytes.{Bytes, byte, bytes, part}
-use Rattle.finish.specs.Question.{fieldIn}
-use Rattle.scene.specs.Record.{Answer}
+use Rattle.scene.specs.Record.{fieldIn, Answer}
 use Rattle.scene.specs.Types.{typeName}
 
 -- the last k digits of a number in base ten, without leading zeros

@@ -56,7 +56,7 @@ module _ (text : Bytes) (table : List ℕ) (e : Entry) (es : List Entry) (d : Dr
   named = (λ i. part text (own i .name) (own i .nameLength)) ∙ name-at text (e .places .name) (e .statement .name) (h .0 .name)
 
   finds : (n : ℕ) → n ≡ length (statements es) → latestIn text table (part text (d .name) (d .size)) n ≡ latest (e .statement .name) (statements es)
-  finds n q = (λ i. latestIn text (w i) (named i) ((q ∙ statements-length es) i)) ∙ search-latest text es (replicate (length table - length (flat (records es))) 0) (h .1) (e .statement .name)
+  finds n q = (λ i. latestIn text (w i) (named i) ((q ∙ statements-length es) i)) ∙ search-latest text es (length table) (h .1) (e .statement .name)
 
   pub enters : (n : ℕ) → n ≡ length (statements es) → n * width + width ≤ length table → enteredIn text table n d ≡ filled 0 (length table) (flat (records (e ∷ es)))
   unfolding enteredIn gives

@@ -1,12 +1,10 @@
 -- What the code may rely on between two words and at a word, and what its step comes to.
-use mathlib.Core.Bool.{Bool, true, false, cond}
 use mathlib.Core.List.{List, [], _∷_, _++_}
 use mathlib.Core.Path.{_≡_, refl, ap, sym, _∙_, subst}
 use Prim.Native.Nat.{ℕ, suc, _+_, _-_, _*_, _/_, _≤_, _<_, min}
 use native.Mathlib.Nat.{add-zero}
 use native.Mathlib.Numerals.{add-one}
 use native.Mathlib.Omega.{arith}
-use lib.Dec.{T, leb, leb→le}
 use lib.Ieee.{Float}
 use lib.ListN.{length, length-append, set, replicate}
 use lib.Seq.{set-at, append-snoc}
@@ -29,9 +27,9 @@ use Rattle.reader.specs.declared.state.Room.{Room}
 use Rattle.reader.specs.declared.state.State.{State}
 use Rattle.scene.proofs.AcceptLaws.{going-sound}
 use Rattle.scene.proofs.PlaceLaws.{all-on, AllRead, all-read}
-use Rattle.scene.proofs.RoomLaws.{fit-forth}
+use Rattle.scene.proofs.RoomLaws.{fit-forth, room-inv}
 use Rattle.scene.proofs.SwapLaws.{Linked, latest-le}
-use Rattle.scene.proofs.SyntaxLaws.{roomFor, AtPhase, Sound}
+use Rattle.scene.proofs.SyntaxLaws.{AtPhase, Sound}
 use Rattle.scene.proofs.TellsLaws.{reals-length, statements-length, numbers-length, reals-count}
 use Rattle.scene.specs.Block.{stands}
 use Rattle.scene.specs.HouseRules.{zeroReal}
@@ -48,13 +46,6 @@ sound-at : (r : Settings) (d : List Statement) (ph : Phase) → AtPhase r d ph �
 sound-at r d idle h = h
 sound-at r d (busy m p) h = h .0
 
-fits-in : (n room : ℕ) → roomFor n room ≡ 0 → n ≤ room
-fits-in n room h = go (leb n room) (leb→le n room) h
-  where
-    go : (b : Bool) → (T b → n ≤ room) → _≡_ {A = ℕ} (cond b 0 13) 0 → n ≤ room
-    go true f e = f tt
-    go false f e = absurd (omega arith)
-
 -- the reals of the open statement have room
 room-at : (r : Settings) (d : List Statement) (ph : Phase) → AtPhase r d ph → realsUsed d + length (openReals ph) ≤ r .reals
 room-at r d ph h = go ph h (fit-forth r d (sound-at r d ph h) .2)
@@ -67,7 +58,7 @@ room-at r d ph h = go ph h (fit-forth r d (sound-at r d ph h) .2)
     go (busy m (atString t n ss k)) h u = omega arith
     go (busy m (atIntegerCount t n ss)) h u = omega arith
     go (busy m (atRealCount t n ss)) h u = omega arith
-    go (busy m (atReal t n ss rs k)) h u = omega (arith, fits-in (realsUsed d + (length rs + suc k)) (r .reals) (h .2), numbers-length rs)
+    go (busy m (atReal t n ss rs k)) h u = omega (arith, room-inv (realsUsed d + (length rs + suc k)) (r .reals) (h .2), numbers-length rs)
     go (busy m atAliasName) h u = omega arith
     go (busy m (atTarget n)) h u = omega arith
 
@@ -119,13 +110,13 @@ module _ (text : Bytes) (table : List ℕ) (reals : List Float) (room : Room) (s
   used-room = (omega (arith, used-is, room-at (settingsOf room) (statements (I .above)) (I .phase) at-phase, reals-room), omega (arith, used-is, room-at (settingsOf room) (statements (I .above)) (I .phase) at-phase, reals-room))
 
   searching : (p n : ℕ) → p + n ≤ length text → Searchable text table (s .count) p n
-  searching p n f = subst (λ (z : List ℕ). Searchable text z (s .count) p n) (sym (I .stored)) (subst (λ (c : ℕ). Searchable text (filled 0 (length table) (flat (records (I .above)))) c p n) (sym (count-is ∙ statements-length (I .above))) (searchable text (I .above) (replicate (length table - length (flat (records (I .above)))) 0) all-stands p n f))
+  searching p n f = subst (λ (z : List ℕ). Searchable text z (s .count) p n) (sym (I .stored)) (subst (λ (c : ℕ). Searchable text (filled 0 (length table) (flat (records (I .above)))) c p n) (sym (count-is ∙ statements-length (I .above))) (searchable text (I .above) (length table) all-stands p n f))
 
   pub looks : (p n : ℕ) → p + n ≤ length text → Looks text table reals s p n
   looks p n f = record { search = searching p n f; used = used-room .0; small = used-room .1; few = omega (arith, count-is, fit .1, records-room); short = I .short }
 
   finds : (w : Bytes) → latestIn text table w (s .count) ≡ latest w (statements (I .above))
-  finds w = (λ i. latestIn text (I .stored i) w ((count-is ∙ statements-length (I .above)) i)) ∙ search-latest text (I .above) (replicate (length table - length (flat (records (I .above)))) 0) all-stands w
+  finds w = (λ i. latestIn text (I .stored i) w ((count-is ∙ statements-length (I .above)) i)) ∙ search-latest text (I .above) (length table) all-stands w
 
 -- ---- at a word
 
@@ -149,7 +140,7 @@ module _ (text : Bytes) (table : List ℕ) (reals : List Float) (room : Room) (s
   finds-here = ap (latestIn text table w) (sym (count-is text table reals room s I)) ∙ finds text table reals room s I w
 
   looked : (latest w d ≡ X) × FoundAs es w (draftIn table X) X
-  looked = (sym finds-here, found-as table es (I .stored) (fit text table reals room s I .0) w X finds-here (omega (arith, finds-here, latest-le w d, statements-length es, records-count es)))
+  looked = (sym finds-here, found-as table es (I .stored) (fit text table reals room s I .0) w X finds-here)
 
   -- as the code's values stand when the phase is ph
   sees : (ph : Phase) → ph ≡ I .phase → (f : ℕ) → f ≡ lookedFor (image (suc (s .at + len)) d ph (I .places) .phase) X

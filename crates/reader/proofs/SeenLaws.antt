@@ -3,31 +3,26 @@ use mathlib.Core.Bool.{Bool, true, false, cond, and-false}
 use mathlib.Core.List.{List, [], _∷_, _++_, append-assoc}
 use mathlib.Core.Option.{Option, none}
 use mathlib.Core.Path.{_≡_, refl, ap, sym, _∙_, subst}
-use Prim.Native.Nat.{ℕ, zero, suc, _+_, _-_, _*_, _≤_, _<_}
-use native.Mathlib.Nat.{add-zero}
+use Prim.Native.Nat.{ℕ, zero, suc, _+_, _-_, _≤_, _<_}
 use native.Mathlib.Omega.{arith}
 use borrow.Author.Tests.{le-leb}
-use lib.Dec.{lit<}
 use lib.Ieee.{Float}
 use lib.ListN.{length, length-append, getD, replicate, List·getD-append}
 use lib.Seq.{getD-append-add, getD-at}
 use Rattle.laws.specs.Bytes.{Bytes}
-use Rattle.reader.specs.Seen.{back, draftIn}
+use Rattle.reader.specs.Seen.{back, draftOf, draftIn}
 use Rattle.reader.specs.declared.state.Draft.{Draft}
-use Rattle.scene.proofs.FlatLaws.{flat-at, flat-length}
+use Rattle.scene.proofs.FlatLaws.{record-in}
 use Rattle.scene.proofs.SwapLaws.{bodyLink, Linked}
 use Rattle.scene.proofs.TellsLaws.{records-at, tail-length, own, statements-length, source-tail, string-below}
 use Rattle.scene.specs.HouseRules.{zeroReal, realAt, breachAt, breach, houseRules}
 use Rattle.scene.specs.Links.{stringsIn, bodyOf, through, ownBody, head, realsIn, source, found, definition, typeIn, latest, hits, resolve}
 use Rattle.scene.specs.Reading.{targetTest, Entry, statements, surfaceTest, modifierTest}
-use Rattle.scene.specs.Record.{filled, recordOf, records, flat, width, firstReal, fields, recordsFrom, stringPlace, Record, nothing}
+use Rattle.scene.specs.Record.{filled, recordOf, records, flat, firstReal, recordsFrom, stringPlace, nothing, nth, recordIn}
 use Rattle.scene.specs.Types.{isSurface}
 use Rattle.scene.specs.Statement.{primitive, Body, alias, Statement}
 
--- type, strings and reals as a record has them, and as a name leads to them
-abbrev draftOf : Record → Draft
-draftOf r = record { kind = r .type; modifier = 0; target = 0; name = 0; size = 0; string = r .string; strings = r .strings; real = r .real; reals = r .reals }
-
+-- type, strings and reals as a name leads to them
 abbrev pub sourceDraft : List Entry → List Statement → Draft
 sourceDraft es S = record { kind = typeIn (bodyOf S); modifier = 0; target = 0; name = 0; size = 0; string = stringPlace es (length S); strings = length (stringsIn (bodyOf S)); real = firstReal S; reals = length (realsIn (bodyOf S)) }
 
@@ -88,20 +83,18 @@ known es w l (e ∷ d) q h = go (hits w (e .statement)) (λ x. known es x (l ++ 
     go false ih = ih w
 
 module _ (table : List ℕ) (es : List Entry) (t : table ≡ filled 0 (length table) (flat (records es))) where
-  cell : (k j : ℕ) → k < length (records es) → j < width → getD table (k * width + j) 0 ≡ getD (fields (getD (records es) k nothing)) j 0
-  cell k j h l = ap (λ (z : List ℕ). getD z (k * width + j) 0) t ∙ List·getD-append (flat (records es)) (replicate (length table - length (flat (records es))) 0) 0 (k * width + j) (omega (arith, flat-length (records es))) ∙ flat-at (records es) k j h l
+  draft-is : (k : ℕ) → draftIn table (suc k) ≡ draftOf (getD (records es) k nothing)
+  unfolding nth
+  draft-is k =
+      let e : suc k - 1 ≡ k = omega arith in
+      ap (λ (z : List ℕ). draftOf (recordIn z (suc k))) t ∙ ap draftOf (record-in (records es) (length table) (suc k)) ∙ ap (λ (n : ℕ). draftOf (getD (records es) n nothing)) e
 
-  draft-is : (k : ℕ) → k < length (records es) → draftIn table (suc k) ≡ draftOf (getD (records es) k nothing)
-  draft-is k h =
-      let z : getD table (k * width) 0 ≡ getD (records es) k nothing .type = ap (λ (n : ℕ). getD table n 0) (sym (add-zero (k * width))) ∙ cell k 0 h (lit< tt) in
-      λ i. record { kind = z i; modifier = 0; target = 0; name = 0; size = 0; string = cell k 5 h (lit< tt) i; strings = cell k 6 h (lit< tt) i; real = cell k 7 h (lit< tt) i; reals = cell k 8 h (lit< tt) i }
-
-  pub found-as : Linked (statements es) → (w : Bytes) (x : ℕ) → x ≡ latest w (statements es) → x ≤ length (records es) → FoundAs es w (draftIn table x) x
-  found-as h w x e l = go x l (subst (Known es (definition w (statements es)) (resolve w (statements es))) (sym e) (known es w [] es refl h))
+  pub found-as : Linked (statements es) → (w : Bytes) (x : ℕ) → x ≡ latest w (statements es) → FoundAs es w (draftIn table x) x
+  found-as h w x e = go x (subst (Known es (definition w (statements es)) (resolve w (statements es))) (sym e) (known es w [] es refl h))
     where
-      go : (x : ℕ) → x ≤ length (records es) → Known es (definition w (statements es)) (resolve w (statements es)) x → FoundAs es w (draftIn table x) x
-      go zero l f = f
-      go (suc j) l f = let q : draftIn table (suc j) ≡ sourceDraft es (resolve w (statements es)) = draft-is j l ∙ f .2 in (f .0, f .1 ∙ ap (λ (z : Draft). cond (isSurface (z .kind)) 11 0) (sym q), q)
+      go : (x : ℕ) → Known es (definition w (statements es)) (resolve w (statements es)) x → FoundAs es w (draftIn table x) x
+      go zero f = f
+      go (suc j) f = let q : draftIn table (suc j) ≡ sourceDraft es (resolve w (statements es)) = draft-is j ∙ f .2 in (f .0, f .1 ∙ ap (λ (z : Draft). cond (isSurface (z .kind)) 11 0) (sym q), q)
 
 -- ---- the reals before
 

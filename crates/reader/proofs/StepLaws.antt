@@ -27,7 +27,7 @@ use Rattle.scene.proofs.TellsLaws.{numbers-length, string-here, string-below, r
 use Rattle.scene.specs.HouseRules.{breachAt, breach, houseRules}
 use Rattle.scene.specs.Links.{typeIn, modifierLink, stringsIn, latest, gives, realsUsed, realsIn, resolve, definition, bodyOf, firstLater}
 use Rattle.scene.specs.Phase.{integerCount, Outcome, fault, idle, busy, Phase, atIntegerCount, atTarget, into, done, stringCount, typed, atReal, turn, unlessFault, realCount, atType, taken, atStringCount, atAliasName, outcome, atName, strings, reals, atRealCount, real, Turn, onto, Part, atString}
-use Rattle.scene.specs.Reading.{settle, modifierTest, Places, Entry, statements, targetTest, within, note, roomTest, test}
+use Rattle.scene.specs.Reading.{settle, modifierTest, Places, Entry, statements, targetTest, note, roomTest, test, atEnd}
 use Rattle.scene.specs.Record.{recordOf, stringPlace, firstReal, unlessNone}
 use Rattle.scene.specs.Settings.{Settings}
 use Rattle.scene.specs.Types.{isSurface, stringsAllowed, realsAllowed, typeNumber}
@@ -57,7 +57,7 @@ module _ (r : Settings) (room : Room) (es : List Entry) (k : Places) (p : ℕ) (
 
   -- what the definition makes of the word in a phase, beside a step of the code
   abbrev Follows : Phase → Outcome → ℕ → Step → Type 0
-  Follows ph a t s = Goes after es ph (settle (record { at = p + length w; mode = within w; phase = ph; places = note ph p k; above = es }) a t) s
+  Follows ph a t s = Goes after es ph (settle (atEnd p w ph k es) a t) s
 
   step-modifier : latest w d ≡ number → FoundAs es w o number → room .records ≡ r .records → Follows idle (taken r idle w) (test r d idle w) (modifierStep w (room .records) (image after d idle k) v)
   unfolding modifierStep
@@ -73,7 +73,7 @@ module _ (r : Settings) (room : Room) (es : List Entry) (k : Places) (p : ℕ) (
           → Follows idle (into (busy w atType)) (cond b₁ (cond b₂ 0 (modifierTest (definition w d))) 6) (cond b₁ (cond b₂ (goingTo s is.Kind 0 (opened 0)) (linkTo s p x)) (to.Refused 6 p))
       go false b₂ h x l f = refl
       go true true h x l f = linked 0 (rw h)
-      go true false h zero l f = ap (λ (K : Option Statement). settle (record { at = p + length w; mode = within w; phase = idle; places = note idle p k; above = es }) (into (busy w atType)) (modifierTest K)) f
+      go true false h zero l f = ap (λ (K : Option Statement). settle (atEnd p w idle k es) (into (busy w atType)) (modifierTest K)) f
       go true false h (suc j) l f = subst (λ (t : ℕ). Follows idle (into (busy w atType)) t (goingTo s is.Kind 0 (opened (suc j)))) (sym (f .0)) (linked (suc j) (rw h l))
 
   -- inside a statement with the modifier m
@@ -245,11 +245,11 @@ module _ (r : Settings) (room : Room) (es : List Entry) (k : Places) (p : ℕ) (
         }
 
         hit : (q : Bool) (t : ℕ) → t ≡ cond q 11 0 → o ≡ sourceDraft es (resolve w d) → Follows (busy m (atTarget n)) (done (e .statement)) t (cond q (to.Refused 11 p) (to.Complete s))
-        hit true t g h = ap (λ (t : ℕ). settle (record { at = p + length w; mode = within w; phase = busy m (atTarget n); places = note (busy m (atTarget n)) p k; above = es }) (done (e .statement)) t) g
+        hit true t g h = ap (λ (t : ℕ). settle (atEnd p w (busy m (atTarget n)) k es) (done (e .statement)) t) g
         hit false t g h = subst (λ (t : ℕ). Follows (busy m (atTarget n)) (done (e .statement)) t (to.Complete s)) (sym g) (whole h)
 
         go : (x : ℕ) → latest w d ≡ x → FoundAs es w o x → Follows (busy m (atTarget n)) (done (e .statement)) (targetTest (definition w d)) (targetAt (before (atTarget n)) v x)
-        go zero q g = ap (λ (K : Option Statement). settle (record { at = p + length w; mode = within w; phase = busy m (atTarget n); places = note (busy m (atTarget n)) p k; above = es }) (done (e .statement)) (targetTest K)) g
+        go zero q g = ap (λ (K : Option Statement). settle (atEnd p w (busy m (atTarget n)) k es) (done (e .statement)) (targetTest K)) g
         go (suc x) q g = hit (isSurface (o .kind)) (targetTest (definition w d)) (g .1) (g .2)
 
   -- what a step has to see of the tables

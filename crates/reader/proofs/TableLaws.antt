@@ -2,6 +2,7 @@
 use mathlib.Core.List.{List, [], _∷_, _++_, append-nil}
 use mathlib.Core.Path.{_≡_, refl, ap, sym, _∙_}
 use Prim.Native.Nat.{ℕ, zero, suc, _+_, _-_, _*_, _≤_, _<_}
+use native.Mathlib.Nat.{add-zero}
 use native.Mathlib.Numerals.{add-one}
 use native.Mathlib.Omega.{arith}
 use borrow.Author.Tests.{le-leb, lt-leb}
@@ -17,7 +18,7 @@ use Rattle.reader.specs.Seen.{lookedFor, draftIn, back}
 use Rattle.reader.specs.declared.state.Phase.{Phase as CodePhase}
 use Rattle.scene.specs.HouseRules.{zeroReal}
 use Rattle.scene.specs.Phase.{strings}
-use Rattle.scene.specs.Record.{width}
+use Rattle.scene.specs.Record.{fieldIn, recordIn, width}
 use Rattle.reader.specs.declared.state.Phase.the-variants as is
 
 -- the first i entries overwritten by z
@@ -55,7 +56,7 @@ told-some t (suc k) v h = let e : suc k - 1 ≡ k = omega arith in ap (λ (n : �
 pub latest-in-le : (text T w : List ℕ) (n : ℕ) → latestIn text T w n ≤ n
 unfolding latestIn
 latest-in-le text T w zero = omega arith
-latest-in-le text T w (suc n) = cond-elim (λ m. m ≤ suc n) (same w (nameIn text T n)) (omega arith) (let h = latest-in-le text T w n in omega arith)
+latest-in-le text T w (suc n) = cond-elim (λ m. m ≤ suc n) (same w (nameIn text T (suc n))) (omega arith) (let h = latest-in-le text T w n in omega arith)
 
 pub looked-le : (ph : CodePhase) (x n : ℕ) → x ≤ n → lookedFor ph x ≤ n
 looked-le is.Idle x n h = h
@@ -74,8 +75,11 @@ looked-le is.Target x n h = h
 
 pub draft-some : (t : List ℕ) (k : ℕ) → (k ≡ 0 → ⊥)
     → record { kind = getD t ((k - 1) * width) 0; modifier = 0; target = 0; name = 0; size = 0; string = getD t ((k - 1) * width + 5) 0; strings = getD t ((k - 1) * width + 6) 0; real = getD t ((k - 1) * width + 7) 0; reals = getD t ((k - 1) * width + 8) 0 } ≡ draftIn t k
+unfolding recordIn fieldIn
 draft-some t zero h = absurd (h refl)
-draft-some t (suc k) h = let e : suc k - 1 ≡ k = omega arith in ap (λ (k : ℕ). draftIn t (suc k)) e
+draft-some t (suc k) h =
+    let at = (suc k - 1) * width in
+    λ i. record { kind = getD t (sym (add-zero at) i) 0; modifier = 0; target = 0; name = 0; size = 0; string = getD t (at + 5) 0; strings = getD t (at + 6) 0; real = getD t (at + 7) 0; reals = getD t (at + 8) 0 }
 
 -- ---- a real before
 

@@ -27,7 +27,7 @@ use Rattle.scene.proofs.TurnLaws.{run-word}
 use Rattle.scene.specs.HouseRules.{zeroReal}
 use Rattle.scene.specs.Links.{realsIn, realsUsed, realsAdded}
 use Rattle.scene.specs.Phase.{unlessFault, busy, idle, taken, Phase}
-use Rattle.scene.specs.Reading.{run, refused, first, settle, stopped, goingAt, statements, gap, begins, finish, initial, within, Entry, Places, newline, note, test}
+use Rattle.scene.specs.Reading.{run, refused, first, settle, stopped, goingAt, statements, gap, begins, finish, initial, Entry, Places, newline, note, test, atEnd}
 use Rattle.scene.specs.Record.{flat, realTable, records, rooms, filled}
 use Rattle.scene.specs.Settings.{Settings}
 use Rattle.scene.specs.Reading as reading
@@ -114,7 +114,7 @@ module _ (text : Bytes) (table : List ℕ) (reals : List Float) (room : Room) (s
   refuses n p h = ap (finish (length text)) (ap (run (settingsOf room) initial) splits ∙ run-append (settingsOf room) initial done (reads .y) ∙ ap (λ (z : reading.State). run (settingsOf room) z (reads .y)) (comes ∙ h) ∙ run-stopped (settingsOf room) n p (reads .y))
 
   pub faulty : (n : ℕ) → wordFault w ≡ suc n → result text room ≡ refused (suc n) (s .at)
-  faulty n h = refuses (suc n) (s .at) ((λ i. settle (record { at = s .at + length w; mode = within w; phase = I .phase; places = note (I .phase) (s .at) (I .places); above = I .above }) (unlessFault (h i) (taken (settingsOf room) (I .phase) w)) (test (settingsOf room) (statements (I .above)) (I .phase) w)) ∙ ap (stopped (suc n)) (note-word (I .phase) (s .at) (I .places)))
+  faulty n h = refuses (suc n) (s .at) ((λ i. settle (atEnd (s .at) w (I .phase) (I .places) (I .above)) (unlessFault (h i) (taken (settingsOf room) (I .phase) w)) (test (settingsOf room) (statements (I .above)) (I .phase) w)) ∙ ap (stopped (suc n)) (note-word (I .phase) (s .at) (I .places)))
 
   -- all that has been read stands in the text
   pub all-there : (es : List Entry) → AllRead done es → AllRead (text ++ newline) es

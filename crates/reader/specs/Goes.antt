@@ -14,7 +14,7 @@ use Rattle.reader.specs.declared.state.Step.{Step}
 use Rattle.scene.specs.Block.{stands}
 use Rattle.scene.specs.Links.{realsUsed, realsIn}
 use Rattle.scene.specs.Phase.{word, Phase, idle}
-use Rattle.scene.specs.Reading.{statements, settle, within, Entry, Places, note, test, stopped, gap, goingAt}
+use Rattle.scene.specs.Reading.{statements, settle, Entry, Places, test, stopped, gap, goingAt, atEnd}
 use Rattle.scene.specs.Record.{recordOf}
 use Rattle.scene.specs.Settings.{Settings}
 use Rattle.reader.specs.declared.state.Step.the-variants as step
@@ -46,9 +46,9 @@ Goes n es ph to (step.Last x s) = Done n es ph to s (x ∷ [])
 Goes n es ph to (step.Complete s) = Done n es ph to s []
 Goes n es ph to (step.Refused c p) = to ≡ stopped c p
 
--- the definition's state when a word w has ended that stands from p on
+-- the definition's state after a word w that stands from p on
 abbrev pub wordEnded : Settings → ℕ → Bytes → Phase → Places → List Entry → reading.State
-wordEnded r p w ph k es = settle (record { at = p + length w; mode = within w; phase = ph; places = note ph p k; above = es }) (word r ph w) (test r (statements es) ph w)
+wordEnded r p w ph k es = settle (atEnd p w ph k es) (word r ph w) (test r (statements es) ph w)
 
 -- a word's step, before it is done to the tables
 pub record Stepped (text : Bytes) (table : List ℕ) (reals : List Float) (room : Room) (s : State) (len : ℕ) (step : Step) : Type 0 where

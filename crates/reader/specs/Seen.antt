@@ -1,7 +1,7 @@
 -- What a step sees of the tables: the record looked up, and the two reals before.
 use mathlib.Core.Bool.{cond}
 use mathlib.Core.List.{List}
-use Prim.Native.Nat.{ℕ, zero, suc, _+_, _-_, _*_, _≤_}
+use Prim.Native.Nat.{ℕ, zero, suc, _+_, _-_, _≤_}
 use lib.Dec.{leb}
 use lib.Ieee.{Float}
 use lib.ListN.{length, getD}
@@ -16,7 +16,7 @@ use Rattle.scene.specs.HouseRules.{zeroReal}
 use Rattle.scene.specs.Links.{source}
 use Rattle.scene.specs.Phase.{real, strings}
 use Rattle.scene.specs.Reading.{first}
-use Rattle.scene.specs.Record.{width}
+use Rattle.scene.specs.Record.{Record, recordIn}
 use Rattle.reader.specs.declared.state.Phase.the-variants as is
 
 -- a word is looked up only as a modifier or as an alias target
@@ -33,10 +33,14 @@ lookedFor is.Real x = 0
 lookedFor is.AliasName x = 0
 lookedFor is.Target x = x
 
--- type, strings and reals of a record by its number
+-- "An alias takes type, strings and reals from its target": those of a record
+abbrev pub draftOf : Record → Draft
+draftOf r = record { kind = r .type; modifier = 0; target = 0; name = 0; size = 0; string = r .string; strings = r .strings; real = r .real; reals = r .reals }
+
+-- and those of the record of a number, of which 0 is none
 abbrev pub draftIn : List ℕ → ℕ → Draft
 draftIn table zero = opened 0
-draftIn table (suc j) = record { kind = getD table (j * width) 0; modifier = 0; target = 0; name = 0; size = 0; string = getD table (j * width + 5) 0; strings = getD table (j * width + 6) 0; real = getD table (j * width + 7) 0; reals = getD table (j * width + 8) 0 }
+draftIn table (suc j) = draftOf (recordIn table (suc j))
 
 -- the real that stands j before the u-th
 unfoldable pub back : List Float → ℕ → ℕ → Float

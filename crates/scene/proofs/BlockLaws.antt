@@ -12,7 +12,7 @@ use lib.Seq.{take-append-seam}
 use Rattle.laws.specs.Bytes.{Bytes}
 use Rattle.scene.proofs.AcceptLaws.{read-inv, going-parse, accept-forth, accept-back, onTop-inv}
 use Rattle.scene.proofs.EdgeLaws.{Range, Since, LineStart, Edge, edge, since-edge, since-start}
-use Rattle.scene.proofs.RenumberLaws.{Both, both-swap}
+use Rattle.scene.proofs.RenumberLaws.{Renamed, renamed-swap}
 use Rattle.scene.proofs.RoomLaws.{sound-swap, used-append}
 use Rattle.scene.proofs.SwapLaws.{Clear, new}
 use Rattle.scene.proofs.SyntaxLaws.{Step, pass, onTop, chain, parse, parse-append, Sound}
@@ -207,7 +207,7 @@ pub record Swapped (r : Settings) (text : Bytes) (f : ℕ → ℕ) (old : List S
   pub entries : List Entry
   pub reads : read r text ≡ accepted entries
   pub reals : realsUsed (statements entries) ≡ realsUsed old
-  pub both : Both f old (statements entries)
+  pub renamed : Renamed f old (statements entries)
 
 swapped : (r : Settings) (p a b q : Bytes) (es : List Entry) (k : Parts r p a b q es) → leb (length (p ++ a ++ b ++ q)) 65536 ≡ true → Sound r (statements es) → Clear (k .A) (k .B) → Clear (k .B) (k .A)
     → Swapped r (p ++ b ++ a ++ q) (shift (length (k .P)) (length (k .A)) (length (k .B))) (statements es)
@@ -222,7 +222,7 @@ swapped r p a b q es k fits sound cab cba =
       entries = new .0;
       reads = new .1;
       reals = ap realsUsed (new .2) ∙ omega (arith, used-append (k .Q) (k .A ++ (k .B ++ k .P)), used-append (k .A) (k .B ++ k .P), used-append (k .B) (k .P), used-append (k .Q) (k .B ++ (k .A ++ k .P)), used-append (k .B) (k .A ++ k .P), used-append (k .A) (k .P)) ∙ ap realsUsed (sym (k .all));
-      both = subst₂ (Both (shift (length (k .P)) (length (k .A)) (length (k .B)))) (sym (k .all)) (sym (new .2)) (both-swap (k .P) (k .A) (k .B) (k .Q) cab cba);
+      renamed = subst₂ (Renamed (shift (length (k .P)) (length (k .A)) (length (k .B)))) (sym (k .all)) (sym (new .2)) (renamed-swap (k .P) (k .A) (k .B) (k .Q) cab cba);
     }
 
 pub exchange : (r : Settings) (p a b q : Bytes) (es : List Entry)

@@ -75,4 +75,4 @@ module _ (r : Settings) (old new : Bytes) (es es′ : List Entry) (f : ℕ → �
 pub exchange-law : ExchangeLaw
 exchange-law r p a b q es h =
     let s = exchange r p a b q es (h .reads) (h .first) (h .second) (clear-first (h .independent)) (clear-second (h .independent)) in
-    record { entries = s .entries; renumbers = renumbers r (p ++ a ++ b ++ q) (p ++ b ++ a ++ q) es (s .entries) _ (h .reads) (s .reads) (s .both .forth) (s .reals) }
+    record { entries = s .entries; renumbers = renumbers r (p ++ a ++ b ++ q) (p ++ b ++ a ++ q) es (s .entries) _ (h .reads) (s .reads) (s .renamed) (s .reals) }

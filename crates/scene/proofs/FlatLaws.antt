@@ -8,7 +8,7 @@ use lib.Dec.{lit<}
 use lib.ListN.{replicate, length, set, getD, List·getD-append}
 use lib.Seq.{getD-append-add}
 use Rattle.laws.proofs.NatLaws.{le-or-lt}
-use Rattle.scene.specs.Record.{recordIn, nth, filled, Record, fields, nothing, width, flat}
+use Rattle.scene.specs.Record.{recordIn, fieldIn, nth, filled, Record, fields, nothing, width, flat}
 
 -- a record with its next set
 abbrev pub withNext : Record → ℕ → Record
@@ -78,7 +78,7 @@ flat-any rs k j l z = go (le-or-lt (length rs) k)
 
 -- the table as it is read is the records
 pub record-in : (rs : List Record) (m n : ℕ) → recordIn (filled 0 m (flat rs)) n ≡ nth rs n
-unfolding recordIn nth
+unfolding recordIn fieldIn nth
 record-in rs m n = λ i. record { type = cell 0 (lit< tt) refl i; modifier = cell 1 (lit< tt) refl i; target = cell 2 (lit< tt) refl i; name = cell 3 (lit< tt) refl i; nameLength = cell 4 (lit< tt) refl i; string = cell 5 (lit< tt) refl i; strings = cell 6 (lit< tt) refl i; real = cell 7 (lit< tt) refl i; reals = cell 8 (lit< tt) refl i; next = cell 9 (lit< tt) refl i }
   where
     cell : (j : ℕ) → j < width → getD (fields nothing) j 0 ≡ 0 → getD (filled 0 m (flat rs)) ((n - 1) * width + j) 0 ≡ getD (fields (getD rs (n - 1) nothing)) j 0

@@ -7,8 +7,8 @@ use native.Mathlib.Nat.{zero-add}
 use native.Mathlib.Omega.{arith}
 use lib.ListN.{length, length-append, set, getD, List·getD-append}
 use lib.Seq.{set-at, set-append-left, getD-at}
-use Rattle.laws.specs.Bytes.{Bytes}
 use Rattle.laws.proofs.BoolLaws.{or-false-left, or-false-right}
+use Rattle.laws.specs.Bytes.{Bytes}
 use Rattle.scene.proofs.FlatLaws.{withNext, link}
 use Rattle.scene.proofs.RowLaws.{orElse-zero}
 use Rattle.scene.proofs.SwapLaws.{hits-of, hits-true, latest-le}

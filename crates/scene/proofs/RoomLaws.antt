@@ -21,7 +21,7 @@ unfolding realsUsed
 used-append [] Y = sym (zero-add (realsUsed Y))
 used-append (s ∷ X) Y = let h = used-append X Y in omega arith
 
-room-inv : (n room : ℕ) → roomFor n room ≡ 0 → n ≤ room
+pub room-inv : (n room : ℕ) → roomFor n room ≡ 0 → n ≤ room
 room-inv n room h = go (leb n room) (leb→le n room) h
   where
     go : (b : Bool) → (T b → n ≤ room) → _≡_ {A = ℕ} (cond b 0 13) 0 → n ≤ room

@@ -12,6 +12,7 @@ use lib.Seq.{take-append-seam, drop-append-seam, take-append-le, drop-append-le,
 use Rattle.laws.proofs.NatLaws.{le-or-lt}
 use Rattle.laws.specs.Bytes.{Bytes}
 use Rattle.scene.proofs.AcceptLaws.{read-inv}
+use Rattle.scene.proofs.BlockLaws.{statements-append}
 use Rattle.scene.proofs.PlaceLaws.{Says, Spelt, AllRead, all-read}
 use Rattle.scene.proofs.WordsLaws.{between, wordsIn, words-from}
 use Rattle.scene.specs.Links.{gives, hits, realsUsed, realsAdded, resolve, through, bodyOf, typeIn, stringsIn, realsIn, ownBody, modifierLink, targetLink, firstLater, source}
@@ -166,11 +167,6 @@ name-at text k n h =
     let a : k ≤ length text = omega arith in
     let b : length n ≤ length (drop k text) = rw length-drop (omega arith) in
     sym (take-append-le (length n) (drop k text) newline b) ∙ ap (take (length n)) (sym (drop-append-le k text newline a) ∙ ap (drop k) (sym (append-nil (text ++ newline)))) ∙ h .says []
-
-pub statements-append : (x y : List Entry) → statements (x ++ y) ≡ statements x ++ statements y
-unfolding statements
-statements-append [] y = refl
-statements-append (e ∷ x) y = ap {B = List Statement} (λ (z : List Statement). e .statement ∷ z) (statements-append x y)
 
 -- ---- what text and table tell of a record is what the statements say
 

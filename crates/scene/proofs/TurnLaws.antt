@@ -13,7 +13,7 @@ use Rattle.laws.specs.Bytes.{Bytes}
 use Rattle.laws.specs.Runs.{all}
 use Rattle.lexer.specs.Class.{isBlank, isOther, isInLine}
 use Rattle.scene.specs.Phase.{Phase, word}
-use Rattle.scene.specs.Reading.{gap, comment, within, Move, keep, first, ended, begins, move, test, Places, note, Entry, Going, goingAt, going, statements, settle, advance, run}
+use Rattle.scene.specs.Reading.{gap, comment, within, Move, keep, first, ended, begins, move, test, Places, note, Entry, Going, atEnd, goingAt, going, statements, settle, advance, run}
 use Rattle.scene.specs.Settings.{Settings}
 
 other-byte : (b : ℕ) → isOther b ≡ true → isBlank b ≡ false
@@ -39,12 +39,8 @@ module _ (r : Settings) (ph : Phase) (es : List Entry) where
       let e : suc n + length w ≡ n + suc (length w) = omega arith in
       step _ b (w ++ t) (keep (within (v ++ b ∷ []))) (rw (other-byte b (and-left (isOther b) (all isOther w) h))) ∙ run-within (suc n) k (v ++ b ∷ []) w t (and-right (isOther b) (all isOther w) h) ∙ (λ i. run r (goingAt (e i) (within (append-assoc v (b ∷ []) w i)) ph k es) t)
 
-  -- the state when the word w, which stands from n on, has ended
-  abbrev pub atEnd : ℕ → Places → Bytes → Going
-  atEnd n k w = record { at = n + length w; mode = within w; phase = ph; places = note ph n k; above = es }
-
   pub run-word : (n : ℕ) (k : Places) (c : ℕ) (w : Bytes) (b : ℕ) (t : Bytes) → all isOther (c ∷ w) ≡ true → isBlank b ≡ true → begins ph c ≡ first c
-      → run r (goingAt n gap ph k es) (c ∷ w ++ b ∷ t) ≡ run r (settle (atEnd n k (c ∷ w)) (word r ph (c ∷ w)) (test r (statements es) ph (c ∷ w))) t
+      → run r (goingAt n gap ph k es) (c ∷ w ++ b ∷ t) ≡ run r (settle (atEnd n (c ∷ w) ph k es) (word r ph (c ∷ w)) (test r (statements es) ph (c ∷ w))) t
   unfolding all
   run-word n k c w b t h e f =
       let q : suc n + length w ≡ n + suc (length w) = omega arith in

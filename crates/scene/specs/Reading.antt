@@ -134,6 +134,10 @@ abbrev pub note : Phase → ℕ → Places → Places
 note idle p k = record { word = p; start = p; name = 0; string = 0 }
 note (busy m part) p k = notePart part p k
 
+-- where a word w has just ended that stands from p on
+abbrev pub atEnd : ℕ → Bytes → Phase → Places → List Entry → Going
+atEnd p w ph k es = record { at = p + length w; mode = within w; phase = ph; places = note ph p k; above = es }
+
 unfoldable pub statements : List Entry → List Statement
 statements [] = []
 statements (e ∷ es) = e .statement ∷ statements es

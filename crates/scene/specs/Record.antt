@@ -98,21 +98,25 @@ reals (s ∷ d) = reals d ++ realsIn (s .body)
 abbrev pub realTable : List Entry → List Float
 realTable es = reals (statements es)
 
--- record n of a table of numbers, from 1
+-- number k, from 0, of record n, from 1, of a table of numbers; 0 where the table has none
+unfoldable pub fieldIn : List ℕ → (n k : ℕ) → ℕ
+fieldIn table n k = getD table ((n - 1) * width + k) 0
+
+-- record n of a table of numbers
 unfoldable pub recordIn : List ℕ → ℕ → Record
 recordIn table n =
-    let at = (n - 1) * width in
+    let field = fieldIn table n in
     record {
-      type = getD table (at + 0) 0;
-      modifier = getD table (at + 1) 0;
-      target = getD table (at + 2) 0;
-      name = getD table (at + 3) 0;
-      nameLength = getD table (at + 4) 0;
-      string = getD table (at + 5) 0;
-      strings = getD table (at + 6) 0;
-      real = getD table (at + 7) 0;
-      reals = getD table (at + 8) 0;
-      next = getD table (at + 9) 0;
+      type = field 0;
+      modifier = field 1;
+      target = field 2;
+      name = field 3;
+      nameLength = field 4;
+      string = field 5;
+      strings = field 6;
+      real = field 7;
+      reals = field 8;
+      next = field 9;
     }
 
 -- ---- the lent tables

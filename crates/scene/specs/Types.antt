@@ -83,6 +83,10 @@ stringsAllowed t k = allows (kindOf t .strings) k
 unfoldable pub realsAllowed : ℕ → ℕ → Bool
 realsAllowed t k = allows (kindOf t .reals) k
 
+-- "a reached type outside 1 to 25": there are 25 types
+abbrev pub isType : ℕ → Bool
+isType t = leb 1 t && leb t 25
+
 -- "1 to 9 are surfaces, 10 to 24 materials"
 abbrev pub isSurface : ℕ → Bool
 isSurface t = leb 1 t && leb t 9

@@ -2,7 +2,7 @@
 use native.Mathlib.Omega.{arith}
 use borrow.Author.Needs.{needs}
 use Rattle.finish.proofs.QuestionLaws.{none-at}
-use Rattle.finish.specs.Question.{fieldIn}
+use Rattle.scene.specs.Record.{fieldIn}
 use Rattle.finish.proofs.field.Statement.{statement}
 use Rattle.finish.proofs.field.Tie as tie
 

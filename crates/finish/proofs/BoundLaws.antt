@@ -1,12 +1,12 @@
 -- How many links a walk follows: no more than the allowance, and fewer than the start's number, as each leads to a lower one.
-use mathlib.Core.Bool.{Bool, true, false, _&&_, cond}
+use mathlib.Core.Bool.{Bool, true, false, cond}
 use mathlib.Core.List.{List}
 use mathlib.Core.Path.{_≡_, refl}
 use Prim.Native.Nat.{ℕ, zero, suc, _+_, _-_, _≤_, _<_}
 use native.Mathlib.Omega.{arith}
 use borrow.Author.Tests.{ltb-true}
-use lib.Dec.{eqb, leb, ltb}
-use Rattle.finish.specs.Question.{asked}
+use lib.Dec.{eqb, ltb}
+use Rattle.finish.specs.Question.{numberRefusal}
 use Rattle.finish.specs.Walk.{atLink, atType, walkFrom, finishOf}
 use Rattle.finish.specs.declared.Finish.{Finish}
 use Rattle.finish.specs.declared.Finish.the-variants.{Reached, Refused}
@@ -54,8 +54,8 @@ allowed table (suc left) k n =
     (λ a b. at-type (k + suc left) (recordIn table m .type) m (suc k) (walkFrom table left (suc k) m) (omega arith) (omega arith))
 
 -- a refused question follows none
-asked-bound : (b a : ℕ) (f : Finish) → linksOf f ≤ b → linksOf (cond (eqb a 0) f (Refused a 0)) ≤ b
-asked-bound b a f h = go (eqb a 0)
+refusal-bound : (b a : ℕ) (f : Finish) → linksOf f ≤ b → linksOf (cond (eqb a 0) f (Refused a 0)) ≤ b
+refusal-bound b a f h = go (eqb a 0)
   where
     go : (c : Bool) → linksOf (cond c f (Refused a 0)) ≤ b
     go true = h
@@ -64,9 +64,9 @@ asked-bound b a f h = go (eqb a 0)
 -- "That count never exceeds the start's number less 1"
 pub finish-bounded : (table : List ℕ) (count n allowance : ℕ) → linksOf (finishOf table count n allowance) ≤ n - 1
 unfolding finishOf
-finish-bounded table count n allowance = asked-bound (n - 1) (asked table count n) (walkFrom table allowance 0 n) (let h = bounded table allowance 0 n in omega arith)
+finish-bounded table count n allowance = refusal-bound (n - 1) (numberRefusal table count n) (walkFrom table allowance 0 n) (let h = bounded table allowance 0 n in omega arith)
 
 -- nor the allowance
 pub finish-allowed : (table : List ℕ) (count n allowance : ℕ) → linksOf (finishOf table count n allowance) ≤ allowance
 unfolding finishOf
-finish-allowed table count n allowance = asked-bound allowance (asked table count n) (walkFrom table allowance 0 n) (let h = allowed table allowance 0 n in omega arith)
+finish-allowed table count n allowance = refusal-bound allowance (numberRefusal table count n) (walkFrom table allowance 0 n) (let h = allowed table allowance 0 n in omega arith)

@@ -9,7 +9,7 @@ use borrow.Author.Tests.{le-leb, lt-ltb}
 use lib.ListN.{replicate, length, length-append}
 use Rattle.laws.specs.Bytes.{Bytes, same}
 use Rattle.finish.specs.Meaning.{finishIn}
-use Rattle.finish.specs.Question.{asked}
+use Rattle.finish.specs.Question.{numberRefusal}
 use Rattle.finish.specs.Walk.{numbersOf, atLink, atType, walkFrom, finishOf}
 use Rattle.finish.specs.declared.Finish.{Finish}
 use Rattle.finish.specs.declared.Finish.the-variants.{Reached, Refused}
@@ -196,9 +196,9 @@ module _ (r : Settings) (text : Bytes) (es : List Entry) (reads : read r text �
   image-length = subst (λ (z : Reading). length es * width ≤ length (recordImage m z)) (sym reads) (omega (arith, length-append (flat (records es)) (replicate (m - length (flat (records es))) 0), flat-length (records es), records-length [] es))
 
   -- a primitive of the table can be asked about, where the room was document 01's
-  asked-none : r .records ≤ 1024 → asked (recordImage m (read r text)) (length es) (suc (length x)) ≡ 0
-  unfolding asked
-  asked-none c = rw (le-leb (length es) 1024 few, le-leb (length es * width) (length (recordImage m (read r text))) image-length, le-leb 1 (suc (length x)) (omega arith), le-leb (suc (length x)) (length es) (omega (arith, ap length q, length-append l (e ∷ x))))
+  number-fine : r .records ≤ 1024 → numberRefusal (recordImage m (read r text)) (length es) (suc (length x)) ≡ 0
+  unfolding numberRefusal
+  number-fine c = rw (le-leb (length es) 1024 few, le-leb (length es * width) (length (recordImage m (read r text))) image-length, le-leb 1 (suc (length x)) (omega arith), le-leb (suc (length x)) (length es) (omega (arith, ap length q, length-append l (e ∷ x))))
     where
       few : length es ≤ 1024
       few = omega (arith, fit-forth r (statements es) ((accept-forth r text es reads) .2) .1, statements-length es)
@@ -206,7 +206,7 @@ module _ (r : Settings) (text : Bytes) (es : List Entry) (reads : read r text �
   -- the question's answer is the walk from its statement
   pub finish-means : (allowance : ℕ) → r .records ≤ 1024 → length x ≤ allowance → finishOf (recordImage m (read r text)) (length es) (suc (length x)) allowance ≡ finishIn (e .statement .modifier) (statements x) 0
   unfolding finishOf
-  finish-means allowance c h = rw (asked-none c) (walk-means allowance 0 h)
+  finish-means allowance c h = rw (number-fine c) (walk-means allowance 0 h)
 
 -- the same of the tables lent to the reader; it refuses nothing
 module _ (text : Bytes) (lent doubles : ℕ) (es : List Entry) (reads : read (rooms lent doubles) text ≡ accepted es) (l : List Entry) (e : Entry) (x : List Entry) (q : es ≡ l ++ e ∷ x) (allowance : ℕ) (enough : length x ≤ allowance) where

@@ -9,7 +9,7 @@ use lib.Dec.{eqb, leb}
 use lib.ListN.{length, drop, length-take, length-drop, List·getD-eq-default}
 use Rattle.laws.proofs.BoolLaws.{and-left, and-right}
 use Rattle.laws.specs.Bytes.{Bytes, part}
-use Rattle.finish.specs.Question.{asked, nameIn, nameRefusal, nameTest}
+use Rattle.finish.specs.Question.{numberRefusal, nameIn, nameRefusal, nameTest}
 use Rattle.scene.specs.Record.{fieldIn, recordIn}
 
 -- ---- the numbers of a record
@@ -38,24 +38,24 @@ module _ (table : List ℕ) (n : ℕ) where
 -- ---- whether a primitive can be asked about
 
 module _ (table : List ℕ) (count n : ℕ) where
-  pub count-over : 1024 < count → 18 ≡ asked table count n
-  unfolding asked
+  pub count-over : 1024 < count → 18 ≡ numberRefusal table count n
+  unfolding numberRefusal
   count-over h = rw (lt-leb count 1024 h)
 
-  pub count-beyond : count ≤ 1024 → length table < count * 10 → 18 ≡ asked table count n
-  unfolding asked
+  pub count-beyond : count ≤ 1024 → length table < count * 10 → 18 ≡ numberRefusal table count n
+  unfolding numberRefusal
   count-beyond h l = rw (le-leb count 1024 h, lt-leb (count * 10) (length table) l)
 
-  pub number-0 : count ≤ 1024 → count * 10 ≤ length table → n ≡ 0 → 17 ≡ asked table count n
-  unfolding asked
+  pub number-0 : count ≤ 1024 → count * 10 ≤ length table → n ≡ 0 → 17 ≡ numberRefusal table count n
+  unfolding numberRefusal
   number-0 h l e = rw (le-leb count 1024 h, le-leb (count * 10) (length table) l, e)
 
-  pub number-over : count ≤ 1024 → count * 10 ≤ length table → 0 < n → count < n → 17 ≡ asked table count n
-  unfolding asked
+  pub number-over : count ≤ 1024 → count * 10 ≤ length table → 0 < n → count < n → 17 ≡ numberRefusal table count n
+  unfolding numberRefusal
   number-over h l z o = rw (le-leb count 1024 h, le-leb (count * 10) (length table) l, le-leb 1 n z, lt-leb n count o)
 
-  pub number-good : count ≤ 1024 → count * 10 ≤ length table → 0 < n → n ≤ count → 0 ≡ asked table count n
-  unfolding asked
+  pub number-good : count ≤ 1024 → count * 10 ≤ length table → 0 < n → n ≤ count → 0 ≡ numberRefusal table count n
+  unfolding numberRefusal
   number-good h l z o = rw (le-leb count 1024 h, le-leb (count * 10) (length table) l, le-leb 1 n z, le-leb n count o)
 
 -- ---- whether a name can be shown
@@ -82,13 +82,13 @@ module _ (text : Bytes) (place len : ℕ) where
       go false h q = absurd (omega (arith, q))
 
 module _ (text : Bytes) (table : List ℕ) (count n : ℕ) where
-  pub refusal-asked : (asked table count n ≡ 0 → ⊥) → asked table count n ≡ nameRefusal text table count n
+  pub refusal-number : (numberRefusal table count n ≡ 0 → ⊥) → numberRefusal table count n ≡ nameRefusal text table count n
   unfolding nameRefusal
-  refusal-asked h = rw (ne-eqb (asked table count n) 0 h)
+  refusal-number h = rw (ne-eqb (numberRefusal table count n) 0 h)
 
-  pub refusal-test : (place len : ℕ) → asked table count n ≡ 0 → place ≡ fieldIn table n 3 → len ≡ fieldIn table n 4 → nameTest text place len ≡ nameRefusal text table count n
+  pub refusal-test : (place len : ℕ) → numberRefusal table count n ≡ 0 → place ≡ fieldIn table n 3 → len ≡ fieldIn table n 4 → nameTest text place len ≡ nameRefusal text table count n
   unfolding nameRefusal fieldIn recordIn
-  refusal-test place len h p l = rw (eq-eqb (asked table count n) 0 h, p, l)
+  refusal-test place len h p l = rw (eq-eqb (numberRefusal table count n) 0 h, p, l)
 
   -- ---- the name
 
@@ -101,18 +101,18 @@ module _ (text : Bytes) (table : List ℕ) (count n : ℕ) where
   unfolding nameIn
   refused-empty h = rw (ne-eqb (nameRefusal text table count n) 0 h)
 
-  asked-of : nameRefusal text table count n ≡ 0 → nameTest text (recordIn table n .name) (recordIn table n .nameLength) ≡ 0
+  test-of : nameRefusal text table count n ≡ 0 → nameTest text (recordIn table n .name) (recordIn table n .nameLength) ≡ 0
   unfolding nameRefusal
-  asked-of e = go (eqb (asked table count n) 0) refl e
+  test-of e = go (eqb (numberRefusal table count n) 0) refl e
     where
-      go : (t : Bool) → eqb (asked table count n) 0 ≡ t → cond t (nameTest text (recordIn table n .name) (recordIn table n .nameLength)) (asked table count n) ≡ 0 → nameTest text (recordIn table n .name) (recordIn table n .nameLength) ≡ 0
+      go : (t : Bool) → eqb (numberRefusal table count n) 0 ≡ t → cond t (nameTest text (recordIn table n .name) (recordIn table n .nameLength)) (numberRefusal table count n) ≡ 0 → nameTest text (recordIn table n .name) (recordIn table n .nameLength) ≡ 0
       go true h q = q
-      go false h q = absurd (false≢true (sym h ∙ eq-eqb (asked table count n) 0 q))
+      go false h q = absurd (false≢true (sym h ∙ eq-eqb (numberRefusal table count n) 0 q))
 
   -- a name that is not refused is not empty
   pub shown-not-empty : nameRefusal text table count n ≡ 0 → length (nameIn text table count n) ≡ 0 → ⊥
   shown-not-empty e q =
-      let i = inside-of text (recordIn table n .name) (recordIn table n .nameLength) (asked-of e) in
+      let i = inside-of text (recordIn table n .name) (recordIn table n .nameLength) (test-of e) in
       let s : part text (recordIn table n .name) (recordIn table n .nameLength) ≡ nameIn text table count n =
       name-shown (recordIn table n .name) (recordIn table n .nameLength) e (sym (name-field table n)) (sym (length-field table n)) in
       let l : length (part text (recordIn table n .name) (recordIn table n .nameLength)) ≡ 0 = ap length s ∙ q in

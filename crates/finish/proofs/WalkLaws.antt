@@ -1,14 +1,13 @@
 -- Laws of the finish walk: one for each end of a link, and one for going on.
-use mathlib.Core.Bool.{Bool, true, false, cond, _&&_}
+use mathlib.Core.Bool.{Bool, true, false, cond}
 use mathlib.Core.List.{List}
 use mathlib.Core.Path.{_≡_, sym, ap, subst, _∙_}
 use Prim.Native.Nat.{ℕ, zero, suc, _+_, _-_, _≤_, _<_}
 use native.Mathlib.Omega.{arith}
 use borrow.Author.Tests.{le-leb, lt-leb, lt-ltb, le-ltb, eq-eqb, ne-eqb}
-use lib.Dec.{leb}
 use Rattle.finish.proofs.QuestionLaws.{modifier-field, type-field}
 use Rattle.finish.specs.Follow.{Follows, reachedOf}
-use Rattle.finish.specs.Question.{asked}
+use Rattle.finish.specs.Question.{numberRefusal}
 use Rattle.finish.specs.Walk.{atLink, atType, finishOf, walkFrom}
 use Rattle.finish.specs.declared.Finish.{Finish}
 use Rattle.finish.specs.declared.Finish.the-variants.{Reached, Refused}
@@ -114,10 +113,10 @@ walk-start table allowance n = ap (λ (l : ℕ). walkFrom table l 0 n) (let e : 
 -- ---- the answer
 
 module _ (table : List ℕ) (count n allowance : ℕ) where
-  pub finish-refused : (asked table count n ≡ 0 → ⊥) → Refused (asked table count n) 0 ≡ finishOf table count n allowance
+  pub finish-refused : (numberRefusal table count n ≡ 0 → ⊥) → Refused (numberRefusal table count n) 0 ≡ finishOf table count n allowance
   unfolding finishOf
-  finish-refused h = rw (ne-eqb (asked table count n) 0 h)
+  finish-refused h = rw (ne-eqb (numberRefusal table count n) 0 h)
 
-  pub finish-walked : asked table count n ≡ 0 → walkFrom table allowance 0 n ≡ finishOf table count n allowance
+  pub finish-walked : numberRefusal table count n ≡ 0 → walkFrom table allowance 0 n ≡ finishOf table count n allowance
   unfolding finishOf
-  finish-walked h = rw (eq-eqb (asked table count n) 0 h)
+  finish-walked h = rw (eq-eqb (numberRefusal table count n) 0 h)

@@ -7,7 +7,7 @@ use Rattle.scene.specs.Record.{recordIn}
 use Rattle.scene.specs.Types.{isMaterial, isType}
 use Rattle.finish.specs.declared.Finish.{Finish}
 use Rattle.finish.specs.declared.Finish.the-variants.{Reached, Refused}
-use Rattle.finish.specs.Question.{asked}
+use Rattle.finish.specs.Question.{numberRefusal}
 
 -- document 01's number, primitive and count of each answer: "Refusals name primitive 0"
 pub record Numbers : Type 0 where
@@ -39,4 +39,4 @@ walkFrom table (suc left) k n =
 
 -- the finish walk from a primitive
 unfoldable pub finishOf : List ℕ → (count number allowance : ℕ) → Finish
-finishOf table count n allowance = let walk = walkFrom table allowance 0 n in cond (eqb (asked table count n) 0) walk (Refused (asked table count n) 0)
+finishOf table count n allowance = let walk = walkFrom table allowance 0 n in cond (eqb (numberRefusal table count n) 0) walk (Refused (numberRefusal table count n) 0)

@@ -2,7 +2,7 @@
 ghost use mathlib.Core.Path.{_≡_};
 ghost use Prim.Native.Nat.{_-_};
 ghost use Rattle.finish.specs.Follow.{Follows, reachedOf};
-ghost use Rattle.finish.specs.Question.{asked, nameIn, nameRefusal, nameTest};
+ghost use Rattle.finish.specs.Question.{nameIn, nameRefusal, nameTest, numberRefusal};
 ghost use Rattle.finish.specs.Walk.{finishOf, walkFrom};
 ghost use Rattle.scene.specs.Record.{fieldIn};
 
@@ -62,8 +62,8 @@ pub fn field(records: &[u32], n: usize, k: usize) -> u32
 }
 
 // Why a primitive cannot be asked about: 18 for the count, then 17 for the number; else 0.
-pub fn asked(records: &[u32], count: usize, number: usize) -> u32
-    ensures { λ r. ⌜ r ≡ asked (now (records .entry)) count number ⌝ }
+pub fn number_refusal(records: &[u32], count: usize, number: usize) -> u32
+    ensures { λ r. ⌜ r ≡ numberRefusal (now (records .entry)) count number ⌝ }
 {
     if 1024 < count {
         return 18;
@@ -100,7 +100,7 @@ fn name_test(text: &[u8], place: usize, len: usize) -> u32
 pub fn name_refusal(text: &[u8], records: &[u32], count: usize, number: usize) -> u32
     ensures { λ r. ⌜ r ≡ nameRefusal (now (text .entry)) (now (records .entry)) count number ⌝ }
 {
-    let reason = asked(records, count, number);
+    let reason = number_refusal(records, count, number);
     if reason != 0 {
         return reason;
     }
@@ -180,7 +180,7 @@ fn walk(records: &[u32], number: usize, allowance: usize) -> Finish
 pub fn finish_of(records: &[u32], count: usize, number: usize, allowance: usize) -> Finish
     ensures { λ r. ⌜ r ≡ finishOf (now (records .entry)) count number allowance ⌝ }
 {
-    let refusal = asked(records, count, number);
+    let refusal = number_refusal(records, count, number);
     if refusal != 0 {
         return Finish::Refused(refusal, 0);
     }

@@ -1,5 +1,5 @@
 -- A coefficient below the limit times or over an exact power of ten is the double nearest to the product or the quotient.
-use mathlib.Core.Bool.{Bool, true, false, cond, not, and-false, or-true}
+use mathlib.Core.Bool.{Bool, true, false, cond, and-false, or-true}
 use mathlib.Core.Logic.{⊎-elim}
 use mathlib.Core.Path.{_≡_, refl, sym, ap, _∙_}
 use Prim.Native.Nat.{ℕ, zero, suc, _+_, _-_, _*_, _^_, _≤_, _<_, min}

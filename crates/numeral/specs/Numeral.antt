@@ -1,7 +1,7 @@
 -- Numerals: their parts as they are written, and the double that each stands for.
 use mathlib.Core.Bool.{Bool, false, not, _&&_, _||_, cond}
 use mathlib.Core.List.{[], _∷_, _++_}
-use Prim.Native.Nat.{ℕ, zero, _+_, _*_, _^_}
+use Prim.Native.Nat.{ℕ, _+_, _*_, _^_}
 use lib.Dec.{leb, ltb, eqb}
 use lib.Ieee.{Float, binary64, round}
 use lib.ListN.{length, take, drop}

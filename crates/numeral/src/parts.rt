@@ -1,6 +1,6 @@
 // The parts of a numeral.
 ghost use mathlib.Core.Path.{_≡_};
-ghost use Prim.Native.Nat.{_+_, _≤_};
+ghost use Prim.Native.Nat.{_+_};
 ghost use lib.ListN.{length, drop};
 ghost use Rattle.numeral.specs.Numeral.{indexOf, isSign, negative, unsigned};
 ghost use Rattle.numeral.specs.Parts.{either, exponentIn, mantissaIn, readExponent, readMantissa};

@@ -7,7 +7,6 @@ use Prim.Native.Nat.{ℕ, zero, suc, _+_, _≤_, _<_}
 use native.Mathlib.Nat.{sub-zero}
 use native.Mathlib.Omega.{arith}
 use borrow.Author.Tests.{le-leb, lt-leb}
-use lib.Dec.{T}
 use lib.Ieee.{Float}
 use lib.ListN.{length, length-append, length-set, length-replicate, length-drop, getD, set, replicate, drop}
 use lib.Seq.{drop-cons}
@@ -166,7 +165,7 @@ module _ (text : Bytes) (table : List ℕ) (reals : List Float) (room : Room) (s
   at-blank h = subst (λ (n : ℕ). isBlank (getD text n 0) ≡ false) (sym place-is) (past-fails isBlank text (s .at) 0 (omega (arith, place-is)))
 
   -- a word has a first byte
-  pub word-some : w .place < length text → 0 < w .len
+  word-some : w .place < length text → 0 < w .len
   unfolding isOther
   word-some h = omega (arith, size-is, ap (longest isOther) (drop-cons text (w .place) 0 h), run-more isOther (getD text (w .place) 0) (drop (suc (w .place)) text) (ap not (at-blank h)))
 

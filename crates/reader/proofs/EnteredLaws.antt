@@ -20,7 +20,7 @@ use Rattle.scene.specs.Links.{latest, gives}
 use Rattle.scene.specs.Reading.{newline, Entry, statements}
 use Rattle.scene.specs.Record.{width, flat, recordOf, Record, filled, fields, records}
 
-pub drop-zeros : (k n : ℕ) → drop {A = ℕ} k (replicate n 0) ≡ replicate (n - k) 0
+drop-zeros : (k n : ℕ) → drop {A = ℕ} k (replicate n 0) ≡ replicate (n - k) 0
 drop-zeros zero n = rw sub-zero
 drop-zeros (suc k) zero = rw zero-sub
 drop-zeros (suc k) (suc n) = rw suc-sub-suc (drop-zeros k n)
@@ -46,7 +46,7 @@ put-record R r n m q h =
     ap (λ (k : ℕ). replicate k 0) c in
     sets-eq (fields r) (flat R ++ z) (n * width) f ∙ (λ i. (a i ++ fields r) ++ b i) ∙ (λ i. sym (flat-snoc R r) i ++ replicate (m - length (flat (R ++ r ∷ []))) 0)
 
-pub records-count : (es : List Entry) → length (records es) ≡ length es
+records-count : (es : List Entry) → length (records es) ≡ length es
 unfolding records
 records-count es = records-length [] es
 

@@ -21,7 +21,6 @@ use Rattle.scene.proofs.EdgeLaws.{run-append, run-stopped}
 use Rattle.scene.proofs.TurnLaws.{run-blanks, run-comment}
 use Rattle.scene.specs.Phase.{atAliasName, atType, atTarget, atRealCount, atString, atReal, busy, atIntegerCount, idle, Phase, atStringCount, atName, Part}
 use Rattle.scene.specs.Reading.{run, finish, command, statements, first, initial, refused, endIn, gap, goingAt, comment, newline, keep, begins, advance, Places}
-use Rattle.scene.specs.Record.{rooms}
 use Rattle.scene.specs.Settings.{Settings}
 use Rattle.scene.specs.Statement.{Statement}
 use Rattle.reader.specs.declared.state.Opening.the-variants as opening

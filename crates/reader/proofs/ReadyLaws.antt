@@ -10,7 +10,7 @@ use lib.ListN.{length, length-append, set, replicate}
 use lib.Seq.{set-at, append-snoc}
 use Rattle.laws.specs.Bytes.{part, Bytes}
 use Rattle.lexer.specs.Word.{wordFault}
-use Rattle.reader.proofs.EnteredLaws.{records-count, enters}
+use Rattle.reader.proofs.EnteredLaws.{enters}
 use Rattle.reader.proofs.LookupLaws.{searchable, search-latest}
 use Rattle.reader.proofs.MoveLaws.{moved-image}
 use Rattle.reader.proofs.SeenLaws.{FoundAs, breach-is, found-as}
@@ -28,10 +28,9 @@ use Rattle.reader.specs.declared.state.State.{State}
 use Rattle.scene.proofs.AcceptLaws.{going-sound}
 use Rattle.scene.proofs.PlaceLaws.{all-on, AllRead, all-read}
 use Rattle.scene.proofs.RoomLaws.{fit-forth, room-inv}
-use Rattle.scene.proofs.SwapLaws.{Linked, latest-le}
+use Rattle.scene.proofs.SwapLaws.{Linked}
 use Rattle.scene.proofs.SyntaxLaws.{AtPhase, Sound}
 use Rattle.scene.proofs.TellsLaws.{reals-length, statements-length, numbers-length, reals-count}
-use Rattle.scene.specs.Block.{stands}
 use Rattle.scene.specs.HouseRules.{zeroReal}
 use Rattle.scene.specs.Links.{realsIn, realsUsed, latest}
 use Rattle.scene.specs.Phase.{atType, atRealCount, Phase, atStringCount, atString, atName, idle, atTarget, atReal, atIntegerCount, atAliasName, busy}

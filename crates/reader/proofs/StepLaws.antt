@@ -9,7 +9,6 @@ use native.Mathlib.Omega.{arith}
 use lib.Dec.{leb, ltb}
 use lib.Ieee.{Float}
 use lib.ListN.{length, length-append}
-use Rattle.laws.proofs.TableLaws.{entry}
 use Rattle.laws.specs.Bytes.{Bytes, same, bytes}
 use Rattle.lexer.specs.Word.{wordFault}
 use Rattle.numeral.specs.Count.{countOf}

@@ -6,7 +6,6 @@ use native.Mathlib.Nat.{add-zero}
 use native.Mathlib.Numerals.{add-one}
 use native.Mathlib.Omega.{arith}
 use borrow.Author.Tests.{le-leb, lt-leb}
-use lib.Dec.{T}
 use lib.Ieee.{Float}
 use lib.ListN.{length, length-replicate, getD, set, replicate, drop, drop-of-length-le}
 use lib.Seq.{drop-cons, set-at, append-snoc}
@@ -17,7 +16,6 @@ use Rattle.reader.specs.Lookup.{nameIn, latestIn}
 use Rattle.reader.specs.Seen.{lookedFor, draftIn, back}
 use Rattle.reader.specs.declared.state.Phase.{Phase as CodePhase}
 use Rattle.scene.specs.HouseRules.{zeroReal}
-use Rattle.scene.specs.Phase.{strings}
 use Rattle.scene.specs.Record.{fieldIn, recordIn, width}
 use Rattle.reader.specs.declared.state.Phase.the-variants as is
 

@@ -5,7 +5,6 @@ use mathlib.Core.Path.{_≡_, refl, ap, sym, _∙_, subst}
 use Prim.Native.Nat.{ℕ, suc, _+_, _≤_}
 use native.Mathlib.Omega.{arith}
 use borrow.Author.Tests.{not-false}
-use lib.Dec.{T}
 use lib.Ieee.{Float}
 use lib.ListN.{length, length-append, length-drop, getD, take, drop, take-append-drop}
 use lib.Seq.{drop-append-le, length-take-le, drop-cons}
@@ -28,7 +27,7 @@ use Rattle.scene.specs.HouseRules.{zeroReal}
 use Rattle.scene.specs.Links.{realsIn, realsUsed, realsAdded}
 use Rattle.scene.specs.Phase.{unlessFault, busy, idle, taken, Phase}
 use Rattle.scene.specs.Reading.{run, refused, first, settle, stopped, goingAt, statements, gap, begins, finish, initial, Entry, Places, newline, note, test, atEnd}
-use Rattle.scene.specs.Record.{flat, realTable, records, rooms, filled}
+use Rattle.scene.specs.Record.{flat, realTable, records, filled}
 use Rattle.scene.specs.Settings.{Settings}
 use Rattle.scene.specs.Reading as reading
 use Rattle.scene.specs.Record as table-of

@@ -8,8 +8,9 @@ use Rattle.laws.specs.Bytes.{Bytes}
 use Rattle.reader.specs.declared.Answer.{Answer}
 use Rattle.reader.specs.declared.Answer.the-variants.{Accepted, Refused}
 use Rattle.scene.specs.Reading.{read, Reading, refused, accepted}
-use Rattle.scene.specs.Record.{records, answer, recordImage, realImage, realTable, rooms, Answer as Numbers}
+use Rattle.scene.specs.Record.{answer, recordImage, realImage, realTable, rooms, Answer as Numbers}
 
+-- the answer that a reading comes to
 abbrev pub answered : Reading → Answer
 answered (refused n p) = Refused n p
 answered (accepted es) = Accepted (length es) (length (realTable es))

@@ -11,7 +11,6 @@ use Rattle.reader.specs.Invariant.{AtWord, settingsOf}
 use Rattle.reader.specs.declared.state.Room.{Room}
 use Rattle.reader.specs.declared.state.State.{State}
 use Rattle.reader.specs.declared.state.Step.{Step}
-use Rattle.scene.specs.Block.{stands}
 use Rattle.scene.specs.Links.{realsUsed, realsIn}
 use Rattle.scene.specs.Phase.{word, Phase, idle}
 use Rattle.scene.specs.Reading.{statements, settle, Entry, Places, test, stopped, gap, goingAt, atEnd}
@@ -39,6 +38,7 @@ pub record Done (n : ℕ) (es : List Entry) (ph : Phase) (to : reading.State) (s
   pub own : recordFrom (s .draft) ≡ recordOf [] entry es
   pub reals : realsIn (entry .statement .body) ≡ openReals ph ++ xs
 
+-- a step, beside the definition's state `to` after the same word
 abbrev pub Goes : ℕ → List Entry → Phase → reading.State → Step → Type 0
 Goes n es ph to (step.Going s) = On n es ph to s []
 Goes n es ph to (step.Real x s) = On n es ph to s (x ∷ [])

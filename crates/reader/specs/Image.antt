@@ -7,14 +7,16 @@ use Rattle.reader.specs.declared.state.Draft.{Draft}
 use Rattle.reader.specs.declared.state.Phase.{Phase as CodePhase}
 use Rattle.reader.specs.declared.state.State.{State}
 use Rattle.scene.specs.Links.{realsUsed, modifierLink}
-use Rattle.scene.specs.Phase.{real, atTarget, atStringCount, reals, Part, atAliasName, atString, strings, atReal, atRealCount, atType, atIntegerCount, Phase, atName, idle, busy}
+use Rattle.scene.specs.Phase.{atTarget, atStringCount, Part, atAliasName, atString, atReal, atRealCount, atType, atIntegerCount, Phase, atName, idle, busy}
 use Rattle.scene.specs.Reading.{Places}
 use Rattle.scene.specs.Statement.{numbers, Statement}
 use Rattle.reader.specs.declared.state.Phase.the-variants as is
 
+-- a draft with nothing in it but the link to its modifier
 abbrev pub opened : ℕ → Draft
 opened l = record { kind = 0; modifier = l; target = 0; name = 0; size = 0; string = 0; strings = 0; real = 0; reals = 0 }
 
+-- a state with its place moved
 abbrev pub movedTo : State → ℕ → State
 movedTo s n = record { at = n; count = s .count; used = s .used; left = s .left; phase = s .phase; draft = s .draft }
 
@@ -22,6 +24,7 @@ movedTo s n = record { at = n; count = s .count; used = s .used; left = s .left;
 abbrev pub between : ℕ → ℕ → ℕ → State
 between n c u = record { at = n; count = c; used = u; left = 0; phase = is.Idle; draft = opened 0 }
 
+-- which word comes next; the first string has a phase of its own, as only its place is kept
 abbrev pub phaseOf : Part → CodePhase
 phaseOf atType = is.Kind
 phaseOf (atName t) = is.Name
@@ -34,6 +37,7 @@ phaseOf (atReal t n ss rs k) = is.Real
 phaseOf atAliasName = is.AliasName
 phaseOf (atTarget n) = is.Target
 
+-- how many words of its kind come after the next one
 abbrev pub leftOf : Part → ℕ
 leftOf atType = 0
 leftOf (atName t) = 0
@@ -57,6 +61,7 @@ partReals (atReal t n ss rs k) = numbers rs
 partReals atAliasName = []
 partReals (atTarget n) = []
 
+-- and those of a phase
 abbrev pub openReals : Phase → List Float
 openReals idle = []
 openReals (busy m p) = partReals p
@@ -73,6 +78,7 @@ drafted l p q u (atReal t n ss rs k) = record { kind = t; modifier = l; target =
 drafted l p q u atAliasName = record { kind = 0; modifier = l; target = 0; name = p; size = 0; string = q; strings = 0; real = 0; reals = 0 }
 drafted l p q u (atTarget n) = record { kind = 0; modifier = l; target = 0; name = p; size = length n; string = q; strings = 0; real = 0; reals = 0 }
 
+-- the code's state at place n, the statements d read
 abbrev pub image : ℕ → List Statement → Phase → Places → State
 image n d idle k = between n (length d) (realsUsed d)
 image n d (busy m p) k = record { at = n; count = length d; used = realsUsed d + length (partReals p); left = leftOf p; phase = phaseOf p; draft = drafted (modifierLink m d) (k .name) (k .string) (realsUsed d) p }

@@ -2,7 +2,7 @@
 use mathlib.Core.Bool.{false, cond}
 use mathlib.Core.List.{List, _++_}
 use mathlib.Core.Path.{_≡_}
-use Prim.Native.Nat.{ℕ, _/_, _≤_, _<_, min}
+use Prim.Native.Nat.{ℕ, _≤_, _<_}
 use lib.Dec.{eqb}
 use lib.Ieee.{Float}
 use lib.ListN.{length, getD, drop}
@@ -20,18 +20,21 @@ use Rattle.reader.specs.declared.state.State.{State}
 use Rattle.scene.specs.HouseRules.{zeroReal}
 use Rattle.scene.specs.Phase.{Phase}
 use Rattle.scene.specs.Reading.{run, statements, newline, Reading, refused, Entry, accepted, Places, initial, finish, gap, goingAt}
-use Rattle.scene.specs.Record.{records, width, filled, flat, realTable}
+use Rattle.scene.specs.Record.{records, filled, flat, realTable, rooms}
 use Rattle.scene.specs.Settings.{Settings}
 use Rattle.reader.specs.declared.Turn.the-variants as turn
 use Rattle.reader.specs.declared.state.Opening.the-variants as opening
 use Rattle.reader.specs.declared.state.Phase.the-variants as is
 
+-- the code's rooms as the definition's
 abbrev pub settingsOf : Room → Settings
 settingsOf m = record { records = m .records; reals = m .reals }
 
-abbrev pub roomIn : ℕ → ℕ → Room
-roomIn t d = record { records = min 1024 (t / width); reals = min 4096 d }
+-- the rooms of lent tables of so many records' numbers and reals
+abbrev pub roomIn : (lentRecords lentReals : ℕ) → Room
+roomIn t d = record { records = rooms t d .records; reals = rooms t d .reals }
 
+-- done has been read and rest is left
 pub record Inv (text : Bytes) (table : List ℕ) (reals : List Float) (room : Room) (s : State) : Type 0 where
   pub done : Bytes
   pub rest : Bytes
@@ -72,6 +75,7 @@ pub record AtWord (text : Bytes) (table : List ℕ) (reals : List Float) (room :
 abbrev pub result : Bytes → Room → Reading
 result text room = finish (length text) (run (settingsOf room) initial (text ++ newline))
 
+-- reading ends with n primitives and k reals, and both tables hold what was read
 pub record Accepts (text : Bytes) (table : List ℕ) (reals : List Float) (room : Room) (n k : ℕ) : Type 0 where
   pub entries : List Entry
   pub accepts : result text room ≡ accepted entries
@@ -80,6 +84,7 @@ pub record Accepts (text : Bytes) (table : List ℕ) (reals : List Float) (room 
   pub stored : table ≡ filled 0 (length table) (flat (records entries))
   pub doubles : reals ≡ filled zeroReal (length reals) (realTable entries)
 
+-- an answer, beside the tables as they stand then
 abbrev pub Ended : Bytes → List ℕ → List Float → Room → Answer → Type 0
 Ended text table reals room (Accepted n k) = Accepts text table reals room n k
 Ended text table reals room (Refused n p) = result text room ≡ refused n p

@@ -1,7 +1,7 @@
 -- What a step sees of the tables: the record looked up, and the two reals before.
 use mathlib.Core.Bool.{cond}
 use mathlib.Core.List.{List}
-use Prim.Native.Nat.{ℕ, zero, suc, _+_, _-_, _≤_}
+use Prim.Native.Nat.{ℕ, zero, suc, _-_, _≤_}
 use lib.Dec.{leb}
 use lib.Ieee.{Float}
 use lib.ListN.{length, getD}
@@ -13,9 +13,6 @@ use Rattle.reader.specs.declared.state.Phase.{Phase as CodePhase}
 use Rattle.reader.specs.declared.state.Seen.{Seen}
 use Rattle.reader.specs.declared.state.State.{State}
 use Rattle.scene.specs.HouseRules.{zeroReal}
-use Rattle.scene.specs.Links.{source}
-use Rattle.scene.specs.Phase.{real, strings}
-use Rattle.scene.specs.Reading.{first}
 use Rattle.scene.specs.Record.{Record, recordIn}
 use Rattle.reader.specs.declared.state.Phase.the-variants as is
 
@@ -46,9 +43,11 @@ draftIn table (suc j) = draftOf (recordIn table (suc j))
 unfoldable pub back : List Float → ℕ → ℕ → Float
 back reals u j = cond (leb j u) (getD reals (u - j) zeroReal) zeroReal
 
+-- a word's place and length, u reals stored, and the record and the reals that a step may look at
 abbrev pub seenBy : List ℕ → List Float → ℕ → ℕ → ℕ → ℕ → Seen
 seenBy table reals place len u found = record { place = place; name = place; size = len; used = u; found = found; source = draftIn table found; previous = back reals u 1; first = back reals u 2 }
 
+-- the same from the state, with the look-up done
 abbrev pub seenIn : Bytes → List ℕ → List Float → State → ℕ → ℕ → Seen
 seenIn text table reals s place len = seenBy table reals place len (s .used) (lookedFor (s .phase) (latestIn text table (part text place len) (s .count)))
 

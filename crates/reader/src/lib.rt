@@ -6,7 +6,6 @@ mod table;
 
 ghost use mathlib.Core.Path.{_≡_};
 ghost use Prim.Native.Nat.{_+_, min};
-ghost use lib.ListN.{length};
 ghost use Rattle.reader.specs.Answer.{Reads};
 ghost use Rattle.reader.specs.Entered.{Enters, enteredIn};
 ghost use Rattle.reader.specs.Goes.{Stepped};

@@ -14,7 +14,7 @@ use Rattle.scene.proofs.AcceptLaws.{read-inv, going-parse, accept-forth
 use Rattle.scene.proofs.EdgeLaws.{Range, Since, LineStart, Edge, edge, since-edge, since-start}
 use Rattle.scene.proofs.RenumberLaws.{Renamed, renamed-swap}
 use Rattle.scene.proofs.RoomLaws.{sound-swap, used-append}
-use Rattle.scene.proofs.SwapLaws.{Clear, new}
+use Rattle.scene.proofs.SwapLaws.{Clear}
 use Rattle.scene.proofs.SyntaxLaws.{Step, pass, onTop, chain, parse, parse-append, Sound}
 use Rattle.scene.specs.Block.{Block, CutsNone, EndsLine, inBlock, shift}
 use Rattle.scene.specs.Links.{realsUsed}

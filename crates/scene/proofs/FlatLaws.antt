@@ -25,7 +25,7 @@ flat-length [] = refl
 flat-length (r ∷ rs) = let h = flat-length rs in omega arith
 
 -- number j of record k, both from 0
-pub flat-at : (rs : List Record) (k j : ℕ) → k < length rs → j < width → getD (flat rs) (k * width + j) 0 ≡ getD (fields (getD rs k nothing)) j 0
+flat-at : (rs : List Record) (k j : ℕ) → k < length rs → j < width → getD (flat rs) (k * width + j) 0 ≡ getD (fields (getD rs k nothing)) j 0
 unfolding flat
 flat-at [] k j h l = absurd (omega arith)
 flat-at (r ∷ rs) zero j h l = let e : 0 * 10 + j ≡ j = omega arith in ap (λ n. getD (fields r ++ flat rs) n 0) e ∙ List·getD-append (fields r) (flat rs) 0 j l

@@ -15,14 +15,14 @@ use Rattle.lexer.specs.Word.{wordFault}
 use Rattle.numeral.specs.Count.{countOf}
 use Rattle.numeral.specs.Numeral.{numeralOf, Answer, value, refusal}
 use Rattle.scene.proofs.EdgeLaws.{part-noted}
-use Rattle.scene.proofs.WordsLaws.{Spot, between, inside, wordsStep, wordsIn}
+use Rattle.scene.proofs.WordsLaws.{Spot, between, wordsStep, wordsIn}
 use Rattle.scene.specs.HouseRules.{breach}
 use Rattle.scene.specs.Links.{stringsIn}
 use Rattle.scene.specs.Phase.{Part, atType, atName, atStringCount, atString, atIntegerCount, atRealCount, atReal, atAliasName, atTarget, Phase, idle, busy, Turn, fault, onto, ends, typed, strings, stringCount, integerCount, reals, realCount, real, turn, Outcome, refuse, into, done, outcome, taken, word, unlessFault}
 use Rattle.scene.specs.Reading.{Mode, gap, comment, within, keep, first, command, ended, begins, move, test, Places, notePart, Entry, Going, State, stopped, going, statements, settle, advance, feed, run, initial}
 use Rattle.scene.specs.Settings.{Settings}
 use Rattle.scene.specs.Types.{typeNumber, stringsAllowed, realsAllowed}
-use Rattle.scene.specs.Statement.{Literal, literal, numbers, void, alias}
+use Rattle.scene.specs.Statement.{Literal, literal, numbers, void}
 
 -- ---- words of a text in two pieces
 

@@ -16,7 +16,7 @@ use Rattle.scene.proofs.SwapLaws.{hits-of, hits-true, latest-le, Linked
 use Rattle.scene.proofs.TellsLaws.{At, at, nth-at, split-statements, statements-length}
 use Rattle.scene.specs.Links.{gives, hits, found, latest, head, definition, firstLater, orElse, modifierLink, targetLink}
 use Rattle.scene.specs.Properties.{numbered, Named, LatestBelow, NextAbove}
-use Rattle.scene.specs.Reading.{Entry, accepted, read, statements, modifierTest, targetTest, test}
+use Rattle.scene.specs.Reading.{Entry, accepted, read, statements, modifierTest, targetTest}
 use Rattle.scene.specs.Record.{Record, nth, records, recordOf, nextOf}
 use Rattle.scene.specs.Settings.{Settings}
 use Rattle.scene.specs.Statement.{Statement, Literal, Body, primitive, alias, void}

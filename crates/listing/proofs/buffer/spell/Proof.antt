@@ -1,7 +1,7 @@
 -- `listing::buffer::spell` meets its contract.
 use mathlib.Core.List.{_++_, append-nil}
 use mathlib.Core.Path.{_≡_, refl, sym, ap, _∙_}
-use Prim.Native.Nat.{_-_, _^_, _≤_, _<_}
+use Prim.Native.Nat.{_^_, _≤_, _<_}
 use native.Mathlib.Omega.{arith}
 use lib.ListN.{length, drop, length-set}
 use Rattle.listing.proofs.DecimalLaws.{digits-none, has-place, spelt, tenth-left}

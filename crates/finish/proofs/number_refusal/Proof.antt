@@ -1,9 +1,9 @@
--- `finish::asked` meets its contract.
+-- `finish::number_refusal` meets its contract.
 use native.Mathlib.Omega.{arith}
 use borrow.Author.Needs.{needs}
 use Rattle.finish.proofs.QuestionLaws.{count-beyond, count-over, number-0, number-good, number-over}
-use Rattle.finish.proofs.asked.Statement.{statement}
-use Rattle.finish.proofs.asked.Tie as tie
+use Rattle.finish.proofs.number_refusal.Statement.{statement}
+use Rattle.finish.proofs.number_refusal.Tie as tie
 
 returns : tie.Need-returns
 returns c = count-over (c .before .args .records .now) (c .before .args .count) (c .before .args .number) (omega arith)
@@ -23,5 +23,5 @@ returns-4 c = number-over (c .before .before .before .before .args .records .now
 returns-5 : tie.Need-returns-5
 returns-5 c = number-good (c .before .before .before .before .args .records .now) (c .before .before .before .before .args .count) (c .before .before .before .before .args .number) (omega arith) (omega arith) (omega arith) (omega arith)
 
-pub asked-spec : {M : Type 1} → statement M
-asked-spec = tie.close (tie.spec returns mul-if2 returns-2 returns-3 returns-4 returns-5)
+pub number-refusal-spec : {M : Type 1} → statement M
+number-refusal-spec = tie.close (tie.spec returns mul-if2 returns-2 returns-3 returns-4 returns-5)

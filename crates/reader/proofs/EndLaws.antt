@@ -18,13 +18,14 @@ use Rattle.lexer.specs.Class.{isInLine, isBlank, isOther}
 use Rattle.lexer.specs.Word.{wordAt, wordFault}
 use Rattle.lexer.specs.declared.Word.{Word}
 use Rattle.reader.proofs.MoveLaws.{at-command, over-comment, over-blanks, ends-here}
+use Rattle.reader.proofs.PhaseLaws.{part-busy}
 use Rattle.reader.proofs.ReadyLaws.{stores-last, used-list, enter-ready, entered, steps-as, more-real, stores, count-is, looks}
 use Rattle.reader.proofs.WordLaws.{reached, goes-out, goes-on, word-fits, refuses, faulty}
 use Rattle.reader.specs.Answer.{Reads, readInto, answered}
 use Rattle.reader.specs.Entered.{Enters, enteredIn}
 use Rattle.reader.specs.Goes.{On, Stepped}
-use Rattle.reader.specs.Image.{between, phaseOf, openReals, image, movedTo}
-use Rattle.reader.specs.Invariant.{Inv, Turned, Ended, settingsOf, openingOf, AtWord, endOf, roomIn, result}
+use Rattle.reader.specs.Image.{between, openReals, image, movedTo}
+use Rattle.reader.specs.Invariant.{Inv, Turned, Ended, settingsOf, openingOf, AtWord, endOf, isIdle, roomIn, result}
 use Rattle.reader.specs.Seen.{seenIn, Looks}
 use Rattle.reader.specs.Steps.{stepOf}
 use Rattle.reader.specs.declared.Answer.the-variants.{Accepted, Refused}
@@ -37,7 +38,7 @@ use Rattle.reader.specs.declared.state.Step.{Step}
 use Rattle.scene.proofs.TellsLaws.{statements-length, reals-length}
 use Rattle.scene.specs.HouseRules.{zeroReal}
 use Rattle.scene.specs.Links.{realsUsed}
-use Rattle.scene.specs.Phase.{atStringCount, Phase, atName, idle, atAliasName, atIntegerCount, busy, atRealCount, atTarget, atReal, atType, atString, Part}
+use Rattle.scene.specs.Phase.{Phase, idle, busy}
 use Rattle.scene.specs.Reading.{run, read, finish, endIn, initial, newline, Places, accepted, statements, refused}
 use Rattle.scene.specs.Record.{rooms, answer, recordsFrom, recordImage, filled, flat, realTable, records, realImage}
 use Rattle.scene.specs.Statement.{Statement}
@@ -46,21 +47,10 @@ use Rattle.reader.specs.declared.state.Opening.the-variants as opening
 use Rattle.reader.specs.declared.state.Step.the-variants as to
 use Rattle.scene.specs.Record as table-of
 
-part-ends : (p : Part) (c u n : ℕ) → endOf (phaseOf p) c u n ≡ Refused 5 n
-part-ends atType c u n = refl
-part-ends (atName t) c u n = refl
-part-ends (atStringCount t m) c u n = refl
-part-ends (atString t m [] j) c u n = refl
-part-ends (atString t m (x ∷ ss) j) c u n = refl
-part-ends (atIntegerCount t m ss) c u n = refl
-part-ends (atRealCount t m ss) c u n = refl
-part-ends (atReal t m ss rs j) c u n = refl
-part-ends atAliasName c u n = refl
-part-ends (atTarget m) c u n = refl
-
 -- the text ends
 module _ (text : Bytes) (table : List ℕ) (reals : List Float) (room : Room) (s : State) (I : Inv text table reals room s) (h : length text ≤ s .at) where
   text-ends : Ended text table reals room (endOf (s .phase) (s .count) (s .used) (length text))
+  unfolding isIdle
   text-ends = go (I .phase) refl
     where
       phase-is : (ph : Phase) → I .phase ≡ ph → s .phase ≡ image (length (I .done)) (statements (I .above)) ph (I .places) .phase
@@ -79,7 +69,7 @@ module _ (text : Bytes) (table : List ℕ) (reals : List Float) (room : Room) (s
             doubles = I .doubles ∙ ap (filled zeroReal (length reals)) none-open;
           })
       go (busy m p) q =
-          subst (Ended text table reals room) (sym (ap (λ (z : CodePhase). endOf z (s .count) (s .used) (length text)) (phase-is (busy m p) q) ∙ part-ends p (s .count) (s .used) (length text)))
+          subst (Ended text table reals room) (sym (ap (λ (z : CodePhase). endOf z (s .count) (s .used) (length text)) (phase-is (busy m p) q) ∙ ap (λ (b : Bool). cond b (Accepted (s .count) (s .used)) (Refused 5 (length text))) (part-busy p)))
           (ends-here text table reals room s I h ∙ ap (λ (ph : Phase). endIn ph (length text) (I .above)) q)
 
 at-is : (n : ℕ) (d : List Statement) (ph : Phase) (k : Places) → image n d ph k .at ≡ n

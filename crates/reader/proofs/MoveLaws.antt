@@ -13,13 +13,14 @@ use Rattle.laws.proofs.RunLaws.{run-all, past-run, behind-run, Behind, run-leng
 use Rattle.laws.specs.Bytes.{Bytes, byte}
 use Rattle.laws.specs.Runs.{past, run as longest}
 use Rattle.lexer.specs.Class.{isInLine, isBlank}
+use Rattle.reader.proofs.PhaseLaws.{part-busy}
 use Rattle.reader.specs.Image.{phaseOf, image, movedTo}
-use Rattle.reader.specs.Invariant.{Inv, openingOf, settingsOf, result}
+use Rattle.reader.specs.Invariant.{Inv, isIdle, openingOf, settingsOf, result}
 use Rattle.reader.specs.declared.state.Room.{Room}
 use Rattle.reader.specs.declared.state.State.{State}
 use Rattle.scene.proofs.EdgeLaws.{run-append, run-stopped}
 use Rattle.scene.proofs.TurnLaws.{run-blanks, run-comment}
-use Rattle.scene.specs.Phase.{atAliasName, atType, atTarget, atRealCount, atString, atReal, busy, atIntegerCount, idle, Phase, atStringCount, atName, Part}
+use Rattle.scene.specs.Phase.{Part, Phase, idle, busy}
 use Rattle.scene.specs.Reading.{run, finish, command, statements, first, initial, refused, endIn, gap, goingAt, comment, newline, keep, begins, advance, Places}
 use Rattle.scene.specs.Settings.{Settings}
 use Rattle.scene.specs.Statement.{Statement}
@@ -104,19 +105,11 @@ module _ (text : Bytes) (table : List ℕ) (reals : List Float) (room : Room) (s
 -- ---- what a byte opens
 
 part-opens : (p : Part) (b : ℕ) → openingOf (phaseOf p) b ≡ opening.Word
-part-opens atType b = refl
-part-opens (atName t) b = refl
-part-opens (atStringCount t n) b = refl
-part-opens (atString t n [] j) b = refl
-part-opens (atString t n (x ∷ ss) j) b = refl
-part-opens (atIntegerCount t n ss) b = refl
-part-opens (atRealCount t n ss) b = refl
-part-opens (atReal t n ss rs j) b = refl
-part-opens atAliasName b = refl
-part-opens (atTarget n) b = refl
+part-opens p b = rw (part-busy p)
 
 module _ (n : ℕ) (d : List Statement) (k : Places) (b : ℕ) where
   pub opens-word : (ph : Phase) → openingOf (image n d ph k .phase) b ≡ opening.Word → begins ph b ≡ first b
+  unfolding isIdle
   opens-word (busy m p) e = refl
   opens-word idle e = go (eqb b (byte "#")) (eqb b (byte "!")) e
     where
@@ -126,6 +119,7 @@ module _ (n : ℕ) (d : List Statement) (k : Places) (b : ℕ) where
       go false false e = refl
 
   opens-comment : (ph : Phase) → openingOf (image n d ph k .phase) b ≡ opening.Comment → (ph ≡ idle) × (eqb b (byte "#") ≡ true)
+  unfolding isIdle
   opens-comment (busy m p) e = let q : opening.Word ≡ opening.Comment = sym (part-opens p b) ∙ e in let z : _≡_ {A = ℕ} 0 1 = cc in absurd (omega arith)
   opens-comment idle e = (refl, go (eqb b (byte "#")) (eqb b (byte "!")) e)
     where
@@ -135,6 +129,7 @@ module _ (n : ℕ) (d : List Statement) (k : Places) (b : ℕ) where
       go false false e = let z : _≡_ {A = ℕ} 0 1 = cc in absurd (omega arith)
 
   opens-command : (ph : Phase) → openingOf (image n d ph k .phase) b ≡ opening.Command → (ph ≡ idle) × (begins idle b ≡ command)
+  unfolding isIdle
   opens-command (busy m p) e = let q : opening.Word ≡ opening.Command = sym (part-opens p b) ∙ e in let z : _≡_ {A = ℕ} 0 1 = cc in absurd (omega arith)
   opens-command idle e = (refl, go (eqb b (byte "#")) (eqb b (byte "!")) e)
     where

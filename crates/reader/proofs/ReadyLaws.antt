@@ -21,7 +21,7 @@ use Rattle.reader.specs.Goes.{Goes, Done, wordEnded, On, Stepped}
 use Rattle.reader.specs.Image.{partReals, openReals, movedTo, image, phaseOf}
 use Rattle.reader.specs.Invariant.{AtWord, Inv, settingsOf}
 use Rattle.reader.specs.Lookup.{Searchable, latestIn}
-use Rattle.reader.specs.Seen.{back, lookedFor, seenIn, Looks, draftIn, seenBy}
+use Rattle.reader.specs.Seen.{back, isLookedUp, lookedFor, seenIn, Looks, draftIn, seenBy}
 use Rattle.reader.specs.Steps.{stepOf}
 use Rattle.reader.specs.declared.state.Room.{Room}
 use Rattle.reader.specs.declared.state.State.{State}
@@ -144,6 +144,7 @@ module _ (text : Bytes) (table : List ℕ) (reals : List Float) (room : Room) (s
   -- as the code's values stand when the phase is ph
   sees : (ph : Phase) → ph ≡ I .phase → (f : ℕ) → f ≡ lookedFor (image (suc (s .at + len)) d ph (I .places) .phase) X
       → Sees (settingsOf room) room es (I .places) (s .at) w (realsUsed d + length (openReals ph)) f (draftIn table f) (back reals (realsUsed d + length (openReals ph)) 1) (back reals (realsUsed d + length (openReals ph)) 2) ph
+  unfolding isLookedUp
   sees idle q f g = subst (λ (x : ℕ). (latest w d ≡ x) × FoundAs es w (draftIn table x) x) (sym g) looked
   sees (busy m atType) q f g = tt
   sees (busy m (atName t)) q f g = tt
@@ -166,6 +167,7 @@ module _ (text : Bytes) (table : List ℕ) (reals : List Float) (room : Room) (s
       (follows (settingsOf room) room es (I .places) (s .at) w (realsUsed d + length (openReals ph)) f (draftIn table f) (back reals (realsUsed d + length (openReals ph)) 1) (back reals (realsUsed d + length (openReals ph)) 2) ph (sees ph q f g) refl refl fine))
 
   pub steps-as : wordFault w ≡ 0 → Stepped text table reals room s len (stepOf (s .phase) w room (movedTo s (s .at + len + 1)) (seenIn text table reals (movedTo s (s .at + len + 1)) (s .at) len))
+  unfolding isLookedUp
   steps-as fine = record { stands = W; goes = subst (λ (t : State). Goes (suc (s .at + len)) es (I .phase) (wordEnded (settingsOf room) (s .at) w (I .phase) (I .places) es) (stepOf (t .phase) w room t (seenIn text table reals t (s .at) len))) (sym (ap (movedTo s) (add-one (s .at + len)) ∙ moved-image text table reals room s I (suc (s .at + len)))) (go (I .phase) refl) }
     where
       go : (ph : Phase) → ph ≡ I .phase → Goes (suc (s .at + len)) es ph (wordEnded (settingsOf room) (s .at) w ph (I .places) es) (stepOf (image (suc (s .at + len)) d ph (I .places) .phase) w room (image (suc (s .at + len)) d ph (I .places)) (seenIn text table reals (image (suc (s .at + len)) d ph (I .places)) (s .at) len))

@@ -13,11 +13,10 @@ use Rattle.laws.proofs.BoolLaws.{cond-elim}
 use Rattle.laws.specs.Bytes.{same}
 use Rattle.reader.specs.Entered.{toldIn}
 use Rattle.reader.specs.Lookup.{nameIn, latestIn}
-use Rattle.reader.specs.Seen.{lookedFor, draftIn, back}
+use Rattle.reader.specs.Seen.{isLookedUp, lookedFor, draftIn, back}
 use Rattle.reader.specs.declared.state.Phase.{Phase as CodePhase}
 use Rattle.scene.specs.HouseRules.{zeroReal}
 use Rattle.scene.specs.Record.{fieldIn, recordIn, width}
-use Rattle.reader.specs.declared.state.Phase.the-variants as is
 
 -- the first i entries overwritten by z
 unfoldable pub cleared : {A : Type 0} → A → List A → ℕ → List A
@@ -57,17 +56,7 @@ latest-in-le text T w zero = omega arith
 latest-in-le text T w (suc n) = cond-elim (λ m. m ≤ suc n) (same w (nameIn text T (suc n))) (omega arith) (let h = latest-in-le text T w n in omega arith)
 
 pub looked-le : (ph : CodePhase) (x n : ℕ) → x ≤ n → lookedFor ph x ≤ n
-looked-le is.Idle x n h = h
-looked-le is.Kind x n h = omega arith
-looked-le is.Name x n h = omega arith
-looked-le is.StringCount x n h = omega arith
-looked-le is.FirstString x n h = omega arith
-looked-le is.LaterString x n h = omega arith
-looked-le is.IntegerCount x n h = omega arith
-looked-le is.RealCount x n h = omega arith
-looked-le is.Real x n h = omega arith
-looked-le is.AliasName x n h = omega arith
-looked-le is.Target x n h = h
+looked-le ph x n h = cond-elim (λ m. m ≤ n) (isLookedUp ph) h (omega arith)
 
 -- ---- the record of a number
 

@@ -1,5 +1,5 @@
 -- What holds between two words: the definition's state after the bytes read, and the code's values as its image.
-use mathlib.Core.Bool.{false, cond}
+use mathlib.Core.Bool.{Bool, true, false, cond}
 use mathlib.Core.List.{List, _++_}
 use mathlib.Core.Path.{_≡_}
 use Prim.Native.Nat.{ℕ, _≤_, _<_}
@@ -49,19 +49,24 @@ pub record Inv (text : Bytes) (table : List ℕ) (reals : List Float) (room : Ro
   pub rooms : room ≡ roomIn (length table) (length reals)
   pub short : length text ≤ 65536
 
--- what a byte opens that is no blank
+-- whether no statement is open
+unfoldable pub isIdle : CodePhase → Bool
+isIdle is.Idle = true
+isIdle is.Kind = false
+isIdle is.Name = false
+isIdle is.StringCount = false
+isIdle is.FirstString = false
+isIdle is.LaterString = false
+isIdle is.IntegerCount = false
+isIdle is.RealCount = false
+isIdle is.Real = false
+isIdle is.AliasName = false
+isIdle is.Target = false
+
+-- what a byte opens that is no blank: "Where a statement may begin, `#` opens a comment [..] and `!` opens a command"; "Inside a
+-- primitive or alias both are ordinary bytes"
 abbrev pub openingOf : CodePhase → ℕ → Opening
-openingOf is.Idle b = cond (eqb b (byte "#")) opening.Comment (cond (eqb b (byte "!")) opening.Command opening.Word)
-openingOf is.Kind b = opening.Word
-openingOf is.Name b = opening.Word
-openingOf is.StringCount b = opening.Word
-openingOf is.FirstString b = opening.Word
-openingOf is.LaterString b = opening.Word
-openingOf is.IntegerCount b = opening.Word
-openingOf is.RealCount b = opening.Word
-openingOf is.Real b = opening.Word
-openingOf is.AliasName b = opening.Word
-openingOf is.Target b = opening.Word
+openingOf ph b = cond (isIdle ph) (cond (eqb b (byte "#")) opening.Comment (cond (eqb b (byte "!")) opening.Command opening.Word)) opening.Word
 
 -- a word of so many bytes stands at the state's place
 pub record AtWord (text : Bytes) (table : List ℕ) (reals : List Float) (room : Room) (s : State) (len : ℕ) : Type 0 where
@@ -96,14 +101,4 @@ Turned text table reals room n (turn.Ended r) = Ended text table reals room r
 
 -- the answer at the text's end: "5 text ends inside a statement", at the text's length
 abbrev pub endOf : CodePhase → (count used len : ℕ) → Answer
-endOf is.Idle c u n = Accepted c u
-endOf is.Kind c u n = Refused 5 n
-endOf is.Name c u n = Refused 5 n
-endOf is.StringCount c u n = Refused 5 n
-endOf is.FirstString c u n = Refused 5 n
-endOf is.LaterString c u n = Refused 5 n
-endOf is.IntegerCount c u n = Refused 5 n
-endOf is.RealCount c u n = Refused 5 n
-endOf is.Real c u n = Refused 5 n
-endOf is.AliasName c u n = Refused 5 n
-endOf is.Target c u n = Refused 5 n
+endOf ph c u n = cond (isIdle ph) (Accepted c u) (Refused 5 n)

@@ -1,5 +1,5 @@
 -- What a step sees of the tables: the record looked up, and the two reals before.
-use mathlib.Core.Bool.{cond}
+use mathlib.Core.Bool.{Bool, true, false, cond}
 use mathlib.Core.List.{List}
 use Prim.Native.Nat.{ℕ, zero, suc, _-_, _≤_}
 use lib.Dec.{leb}
@@ -16,19 +16,23 @@ use Rattle.scene.specs.HouseRules.{zeroReal}
 use Rattle.scene.specs.Record.{Record, recordIn}
 use Rattle.reader.specs.declared.state.Phase.the-variants as is
 
--- a word is looked up only as a modifier or as an alias target
+-- only a modifier and an alias target are looked up
+unfoldable pub isLookedUp : CodePhase → Bool
+isLookedUp is.Idle = true
+isLookedUp is.Kind = false
+isLookedUp is.Name = false
+isLookedUp is.StringCount = false
+isLookedUp is.FirstString = false
+isLookedUp is.LaterString = false
+isLookedUp is.IntegerCount = false
+isLookedUp is.RealCount = false
+isLookedUp is.Real = false
+isLookedUp is.AliasName = false
+isLookedUp is.Target = true
+
+-- what a word leads to, x if it is looked up
 abbrev pub lookedFor : CodePhase → ℕ → ℕ
-lookedFor is.Idle x = x
-lookedFor is.Kind x = 0
-lookedFor is.Name x = 0
-lookedFor is.StringCount x = 0
-lookedFor is.FirstString x = 0
-lookedFor is.LaterString x = 0
-lookedFor is.IntegerCount x = 0
-lookedFor is.RealCount x = 0
-lookedFor is.Real x = 0
-lookedFor is.AliasName x = 0
-lookedFor is.Target x = x
+lookedFor ph x = cond (isLookedUp ph) x 0
 
 -- "An alias takes type, strings and reals from its target": those of a record
 abbrev pub draftOf : Record → Draft

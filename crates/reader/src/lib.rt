@@ -10,7 +10,7 @@ ghost use Rattle.reader.specs.Answer.{Reads};
 ghost use Rattle.reader.specs.Entered.{Enters, enteredIn};
 ghost use Rattle.reader.specs.Goes.{Stepped};
 ghost use Rattle.reader.specs.Image.{between, movedTo};
-ghost use Rattle.reader.specs.Invariant.{AtWord, Ended, Inv, Turned, endOf, openingOf, roomIn};
+ghost use Rattle.reader.specs.Invariant.{AtWord, Ended, Inv, Turned, endOf, isIdle, openingOf, roomIn};
 use state::Opening;
 use state::Phase;
 use state::Room;
@@ -51,31 +51,26 @@ fn moved(s: State, at: usize) -> State
     t
 }
 
+fn is_idle(phase: Phase) -> bool
+    ensures { λ r. ⌜ r ≡ isIdle phase ⌝ }
+{
+    if let Phase::Idle = phase { true } else { false }
+}
+
 // Only where a statement may begin are `#` and `!` more than ordinary bytes.
 fn opening(phase: Phase, b: u8) -> Opening
     ensures { λ r. ⌜ r ≡ openingOf phase b ⌝ }
 {
-    match phase {
-        Phase::Idle => {
-            if b == b'#' {
-                return Opening::Comment;
-            }
-            if b == b'!' {
-                return Opening::Command;
-            }
-            Opening::Word
+    if is_idle(phase) {
+        if b == b'#' {
+            return Opening::Comment;
         }
-        Phase::Kind => Opening::Word,
-        Phase::Name => Opening::Word,
-        Phase::StringCount => Opening::Word,
-        Phase::FirstString => Opening::Word,
-        Phase::LaterString => Opening::Word,
-        Phase::IntegerCount => Opening::Word,
-        Phase::RealCount => Opening::Word,
-        Phase::Real => Opening::Word,
-        Phase::AliasName => Opening::Word,
-        Phase::Target => Opening::Word,
+        if b == b'!' {
+            return Opening::Command;
+        }
+        return Opening::Word;
     }
+    Opening::Word
 }
 
 // The answer where the text ends.
@@ -83,19 +78,10 @@ fn at_end(s: State, len: usize) -> Answer
     ensures { λ r. ⌜ r ≡ endOf (s .phase) (s .count) (s .used) len ⌝ }
 {
     let phase = s.phase;
-    match phase {
-        Phase::Idle => Answer::Accepted(s.count, s.used),
-        Phase::Kind => Answer::Refused(5, len),
-        Phase::Name => Answer::Refused(5, len),
-        Phase::StringCount => Answer::Refused(5, len),
-        Phase::FirstString => Answer::Refused(5, len),
-        Phase::LaterString => Answer::Refused(5, len),
-        Phase::IntegerCount => Answer::Refused(5, len),
-        Phase::RealCount => Answer::Refused(5, len),
-        Phase::Real => Answer::Refused(5, len),
-        Phase::AliasName => Answer::Refused(5, len),
-        Phase::Target => Answer::Refused(5, len),
+    if is_idle(phase) {
+        return Answer::Accepted(s.count, s.used);
     }
+    Answer::Refused(5, len)
 }
 
 // A statement is complete: its record is entered.

@@ -9,7 +9,7 @@ ghost use Rattle.scene.specs.Record.{fields, width};
 ghost use Rattle.reader.specs.Entered.{Enters, enteredIn, recordFrom, toldIn};
 ghost use Rattle.reader.specs.Image.{opened};
 ghost use Rattle.reader.specs.Lookup.{latestIn, Searchable};
-ghost use Rattle.reader.specs.Seen.{Looks, back, draftIn, lookedFor, seenIn};
+ghost use Rattle.reader.specs.Seen.{Looks, back, draftIn, isLookedUp, lookedFor, seenIn};
 use crate::lookup;
 use crate::state::Draft;
 use crate::state::Phase;
@@ -69,6 +69,19 @@ pub fn linked(modifier: u32) -> Draft
 }
 
 // Only a modifier and an alias target are looked up.
+fn is_looked_up(phase: Phase) -> bool
+    ensures { λ r. ⌜ r ≡ isLookedUp phase ⌝ }
+{
+    if let Phase::Idle = phase {
+        return true;
+    }
+    if let Phase::Target = phase {
+        true
+    } else {
+        false
+    }
+}
+
 fn look_up(
     text: &[u8],
     records: &[u32],
@@ -80,19 +93,10 @@ fn look_up(
     requires { ⌜ Searchable (now text) (now records) count place len ⌝ }
     ensures { λ r. ⌜ r ≡ lookedFor phase (latestIn (now (text .entry)) (now (records .entry)) (part (now (text .entry)) place len) count) ⌝ }
 {
-    match phase {
-        Phase::Idle => lookup::find(text, records, count, place, len),
-        Phase::Target => lookup::find(text, records, count, place, len),
-        Phase::Kind => 0,
-        Phase::Name => 0,
-        Phase::StringCount => 0,
-        Phase::FirstString => 0,
-        Phase::LaterString => 0,
-        Phase::IntegerCount => 0,
-        Phase::RealCount => 0,
-        Phase::Real => 0,
-        Phase::AliasName => 0,
+    if is_looked_up(phase) {
+        return lookup::find(text, records, count, place, len);
     }
+    0
 }
 
 // Type, strings and reals of a record by its number.

@@ -1,36 +1,36 @@
 -- The table of names has the types' names, and a search along it finds a type's number.
 use mathlib.Core.Bool.{true, false}
-use mathlib.Core.List.{List, [], _∷_, _++_, map}
+use mathlib.Core.List.{List, [], _∷_, map}
 use mathlib.Core.Path.{_≡_, refl, sym, ap, _∙_}
 use Prim.Native.Nat.{ℕ, suc, _+_, _-_, _≤_, _<_}
 use native.Mathlib.Numerals.{add-one}
 use native.Mathlib.Omega.{arith}
 use lib.ListN.{length, drop, getD, replicate, drop-of-length-le}
-use lib.Seq.{drop-cons}
+use lib.Seq.{drop-cons, take-append-seam}
 use Rattle.laws.proofs.TableLaws.{entry-means}
-use Rattle.laws.specs.Bytes.{Bytes, byte, same}
+use Rattle.laws.specs.Bytes.{Bytes, byte, part, same}
 use Rattle.scene.specs.Types.{Kind, types, kindOf, typeName, numberFrom}
 use Rattle.kinds.proofs.RowLaws.{noType, row-kind, no-row}
-use Rattle.kinds.specs.Names.{nameIn}
+use Rattle.kinds.specs.Names.{padded}
 use Rattle.kinds.specs.declared.Name.{Name}
 
--- a name as the code's table has it: with blanks behind it to ten bytes
-abbrev coded : Kind → Name
-coded t = (t .name ++ replicate (10 - length (t .name)) (byte " "), length (t .name))
+abbrev nameOf : Kind → Name
+nameOf t = padded (t .name)
 
 -- the code's table, as antt computes it
 abbrev table : List Name
-table = map coded types
+table = map nameOf types
 
-abbrev nameOf : Kind → Bytes
-nameOf t = t .name
+-- a name's own bytes
+pub own-bytes : (n : Name) (w : Bytes) → n ≡ padded w → part (n .0) 0 (n .1) ≡ w
+own-bytes n w e = ap (λ (m : Name). part (m .0) 0 (m .1)) e ∙ take-append-seam w (replicate (10 - length w) (byte " "))
 
 module _ (t k : ℕ) (r : k ≡ t - 1) where
-  pub in-table : (d : Name) → k < 25 → nameIn (getD table k d) ≡ typeName t
+  pub in-table : (d : Name) → k < 25 → getD table k d ≡ padded (typeName t)
   unfolding typeName
-  in-table d h = entry-means nameIn nameOf table types refl k d noType h ∙ ap nameOf (row-kind t k r)
+  in-table d h = entry-means (λ n. n) nameOf table types refl k d noType h ∙ ap nameOf (row-kind t k r)
 
-  pub past-table : 25 ≤ k → [] ≡ typeName t
+  pub past-table : 25 ≤ k → padded [] ≡ padded (typeName t)
   unfolding typeName
   past-table h = sym (ap nameOf (no-row t k r h))
 

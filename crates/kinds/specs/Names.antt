@@ -1,6 +1,10 @@
--- The bytes of a name as the code has it.
-use Rattle.laws.specs.Bytes.{Bytes, part}
+-- A name as the code gives it.
+use mathlib.Core.List.{_++_}
+use Prim.Native.Nat.{_-_}
+use lib.ListN.{length, replicate}
+use Rattle.laws.specs.Bytes.{Bytes, byte}
 use Rattle.kinds.specs.declared.Name.{Name}
 
-abbrev pub nameIn : Name → Bytes
-nameIn n = part (n .0) 0 (n .1)
+-- a name of at most ten bytes, with blanks behind it to ten, and its length
+abbrev pub padded : Bytes → Name
+padded w = (w ++ replicate (10 - length w) (byte " "), length w)

@@ -4,7 +4,7 @@ ghost use Prim.Native.Nat.{_-_};
 ghost use Rattle.laws.specs.Bytes.{same};
 ghost use Rattle.scene.specs.HouseRules.{breachAt, houseRules, isAbove0, isAtLeast0, is0};
 ghost use Rattle.scene.specs.Types.{realsAllowed, stringsAllowed, typeName, typeNumber};
-ghost use Rattle.kinds.specs.Names.{nameIn};
+ghost use Rattle.kinds.specs.Names.{padded};
 ghost use Rattle.kinds.specs.Rules.{allowed, breached, broken, countsIn, countsOf};
 
 // A name: ten bytes, and how many of them, from the first on, are its own.
@@ -154,7 +154,7 @@ fn row(t: u32) -> usize
 
 // The name of a type's number; none past the last type.
 pub fn type_name(t: u32) -> Name
-    ensures { λ r. ⌜ nameIn r ≡ typeName t ⌝ }
+    ensures { λ r. ⌜ r ≡ padded (typeName t) ⌝ }
 {
     let k = row(t);
     if 25 <= k {

@@ -2,6 +2,7 @@
 use mathlib.Core.Path.{ap, _∙_}
 use borrow.Author.Needs.{needs}
 use Rattle.laws.specs.Bytes.{same}
+use Rattle.kinds.proofs.NameLaws.{own-bytes}
 use Rattle.kinds.proofs.is_type.Statement.{statement}
 use Rattle.kinds.proofs.is_type.Tie as tie
 
@@ -18,7 +19,7 @@ same-requires : tie.Need-same-requires
 same-requires c κs = search needs
 
 returns : tie.Need-returns
-returns c = c .same .ensures ∙ ap (same (c .before .before .before .before .before .before .args .word .now)) (c .before .part .ensures ∙ c .before .before .before .before .type-name .ensures)
+returns c = c .same .ensures ∙ ap (same (c .before .before .before .before .before .before .args .word .now)) (c .before .part .ensures ∙ own-bytes _ _ (c .before .before .before .before .type-name .ensures))
 
 pub is-type-spec : {M : Type 1} → statement M
 is-type-spec =

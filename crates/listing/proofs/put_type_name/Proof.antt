@@ -1,6 +1,8 @@
 -- `listing::put_type_name` meets its contract.
 use mathlib.Core.Path.{_∙_}
 use borrow.Author.Needs.{needs}
+use Rattle.kinds.proofs.NameLaws.{own-bytes}
+use Rattle.scene.specs.Types.{typeName}
 use Rattle.listing.proofs.put_type_name.Statement.{statement}
 use Rattle.listing.proofs.put_type_name.Tie as tie
 
@@ -20,7 +22,7 @@ same-length : tie.Need-same-length
 same-length c = search needs
 
 returns : tie.Need-returns
-returns c = rw (← (c .before .before .before .part .ensures ∙ c .before .before .before .before .before .before .before .type-name .ensures)) (c .before .before .put-bytes .ensures)
+returns c = rw (← (c .before .before .before .part .ensures ∙ own-bytes _ (typeName (c .before .before .before .before .before .before .before .before .before .args .t)) (c .before .before .before .before .before .before .before .type-name .ensures))) (c .before .before .put-bytes .ensures)
 
 pub put-type-name-spec : {M : Type 1} → statement M
 put-type-name-spec =

@@ -10,6 +10,12 @@ ghost use lib.ListN.{length};
 // 44 more.
 const LINE: usize = 256;
 
+// What is shown of a text: a line for each entry, or the finish of each surface.
+enum Shown {
+    Listing,
+    Finishes,
+}
+
 fn write_line(line: &[u8], n: usize)
     requires { ⌜ n ≤ length (now line) ⌝ }
 {
@@ -26,29 +32,6 @@ fn print_row(text: &[u8], records: &[u32], n: usize) {
     let mut line = [0u8; LINE];
     let len = listing::row_line(&mut line, text, records, n);
     write_line(&line, len);
-}
-
-fn print_rows(text: &[u8], records: &[u32], count: usize) {
-    let mut n = 0;
-    while n < count {
-        n += 1;
-        print_row(text, records, n);
-    }
-}
-
-// Prints the listing of a text, or the reason for refusing it and the place.
-fn list_text(text: &[u8]) {
-    let mut records = [0u32; 10240];
-    let mut reals = [0.0f64; 4096];
-    match reader::read(text, &mut records, &mut reals) {
-        Answer::Accepted(primitives, count) => {
-            print_head(0, 0, primitives, count);
-            print_rows(text, &records, primitives);
-        }
-        Answer::Refused(reason, place) => {
-            print_head(reason, place, 0, 0);
-        }
-    }
 }
 
 // The line of a surface; nothing for other types. No walk needs more links than there are primitives.
@@ -71,21 +54,43 @@ fn print_finish(text: &[u8], records: &[u32], count: usize, n: usize) {
     }
 }
 
-fn print_finishes(text: &[u8], records: &[u32], count: usize) {
-    let mut n = 0;
-    while n < count {
-        n += 1;
-        print_finish(text, records, count, n);
+fn print_entry(what: Shown, text: &[u8], records: &[u32], count: usize, n: usize) {
+    match what {
+        Shown::Listing => {
+            print_row(text, records, n);
+        }
+        Shown::Finishes => {
+            print_finish(text, records, count, n);
+        }
     }
 }
 
-// Prints the finish of each surface of a text, or the reason for refusing it and the place.
-fn finish_text(text: &[u8]) {
+fn print_entries(what: Shown, text: &[u8], records: &[u32], count: usize) {
+    let mut n = 0;
+    while n < count {
+        n += 1;
+        print_entry(what, text, records, count, n);
+    }
+}
+
+// Only a listing begins with the counts.
+fn print_counts(what: Shown, primitives: usize, reals: usize) {
+    match what {
+        Shown::Listing => {
+            print_head(0, 0, primitives, reals);
+        }
+        Shown::Finishes => {}
+    }
+}
+
+// Prints what is shown of a text, or the reason for refusing it and the place.
+fn show_text(what: Shown, text: &[u8]) {
     let mut records = [0u32; 10240];
     let mut reals = [0.0f64; 4096];
     match reader::read(text, &mut records, &mut reals) {
-        Answer::Accepted(primitives, _) => {
-            print_finishes(text, &records, primitives);
+        Answer::Accepted(primitives, count) => {
+            print_counts(what, primitives, count);
+            print_entries(what, text, &records, primitives);
         }
         Answer::Refused(reason, place) => {
             print_head(reason, place, 0, 0);
@@ -107,24 +112,22 @@ fn read_text(text: &mut [u8]) -> usize
     n
 }
 
-// Lists the text on standard input.
-pub fn list_input() {
+fn show_input(what: Shown) {
     let mut text = [0u8; 65536];
     let n = read_text(&mut text);
     if 65536 < n {
         print_head(1, 0, 0, 0);
         return;
     }
-    list_text(&text[..n]);
+    show_text(what, &text[..n]);
+}
+
+// Lists the text on standard input.
+pub fn list_input() {
+    show_input(Shown::Listing);
 }
 
 // Shows the finishes of the text on standard input.
 pub fn finishes_input() {
-    let mut text = [0u8; 65536];
-    let n = read_text(&mut text);
-    if 65536 < n {
-        print_head(1, 0, 0, 0);
-        return;
-    }
-    finish_text(&text[..n]);
+    show_input(Shown::Finishes);
 }

@@ -1,6 +1,5 @@
 pub mod BoolLaws
 pub mod BytesLaws
-pub mod DoubleLaws
 pub mod ListLaws
 pub mod NatLaws
 pub mod RunLaws

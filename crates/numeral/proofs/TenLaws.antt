@@ -12,7 +12,7 @@ use lib.Ieee.Exact.{HasValue}
 use lib.Ieee.Scale.{round-same}
 use lib.IntN.{pos}
 use lib.Pow.{pow-add}
-use Rattle.laws.proofs.DoubleLaws.{mul-val, div-val, neg-round, round-zero}
+use Rattle.steps.proofs.DoubleLaws.{mul-val, div-val, neg-round, round-zero}
 use Rattle.laws.proofs.NatLaws.{le-or-lt}
 use Rattle.numeral.specs.Numeral.{value, refusal, inRange, nearest, numberOf}
 use Rattle.numeral.specs.Saturated.{limit}
@@ -43,7 +43,7 @@ same-power s c up down up′ down′ e =
 
 pub nearest-zero : (s : Bool) (up down : ℕ) → nearest s 0 up down ≡ fin s 0 (pos 0)
 unfolding nearest
-nearest-zero s up down = ap (λ (n : ℕ). round binary64 s n (10 ^ down)) (zero-mul (10 ^ up)) ∙ round-zero s (10 ^ down) (ten-pos down)
+nearest-zero s up down = ap (λ (n : ℕ). round binary64 s n (10 ^ down)) (zero-mul (10 ^ up)) ∙ round-zero binary64 s (10 ^ down) (ten-pos down)
 
 -- a change of sign goes through the rounding
 pub nearest-sign : (s : Bool) (c up down : ℕ) → cond s (neg (nearest false c up down)) (nearest false c up down) ≡ nearest s c up down

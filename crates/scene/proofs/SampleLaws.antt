@@ -1,6 +1,6 @@
--- The definitions compute: the bench sheet's rows on texts, an exchange, and the case of truck nine.
+-- The definitions compute: an exchange, and the case of truck nine.
 use mathlib.Core.Bool.{true}
-use mathlib.Core.List.{List, [], _∷_, _++_, map}
+use mathlib.Core.List.{List, [], _∷_, _++_}
 use mathlib.Core.Logic.{inl, inr}
 use mathlib.Core.Path.{_≡_, refl}
 use Prim.Native.Nat.{ℕ}
@@ -20,7 +20,7 @@ use Rattle.scene.specs.HouseRules.{breach, breachAt, realAt, isAbove0, i
 use Rattle.scene.specs.Links.{gives, hits, found, resolve, firstLater, realsUsed}
 use Rattle.scene.specs.Reading.{Entry, read, run, statements}
 use Rattle.scene.specs.Record.{entries, records, recordsFrom, recordOf, stringPlace, nth, realTable, reals}
-use Rattle.scene.specs.Samples.{TextRow, textRows, roomy, lamp, wall, panel, oak, grey, desk}
+use Rattle.scene.specs.Samples.{roomy, lamp, wall, panel, oak, grey, desk}
 use Rattle.scene.specs.Told.{tells, wordsFrom, renumbered}
 use Rattle.scene.specs.Types.{typeNumber, numberFrom, kindOf, stringsAllowed, realsAllowed}
 use Rattle.laws.specs.Runs as runs
@@ -34,12 +34,6 @@ readings = tt
 tables : Unit {0}
 unfolding readings resolve firstLater records recordsFrom recordOf stringPlace nth reals tells wordsFrom wordAt past isOther
 tables = tt
-
--- ---- the bench sheet's rows on texts
-
-text-rows : map (λ (r : TextRow). read roomy (r .text)) textRows ≡ map (λ (r : TextRow). r .reading) textRows
-unfolding readings
-text-rows = refl
 
 -- ---- an exchange
 

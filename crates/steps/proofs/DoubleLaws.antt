@@ -5,32 +5,51 @@ use Prim.Native.Nat.{ℕ, zero, suc, _+_, _*_, _^_, _<_}
 use native.Mathlib.Nat.{zero-mul, mul-comm, mul-pos, mul-mul-mul-comm, lt-irrefl, zero-lt-suc}
 use borrow.Author.Tests.{ne-eqb}
 use lib.Dec.{ltb, eqb}
-use lib.Ieee.{Float, nan, inf, fin, Format, binary64, prec, emax, low, unlike, up, down, odd, units, round, neg, mul, div}
+use lib.Ieee.{Float, nan, inf, fin, Format, binary32, binary64, prec, emax, low, unlike, up, down, odd, units, round, neg, mul, div}
 use lib.Ieee.Exact.{HasValue}
 use lib.Ieee.Fits.{up-pos, down-pos, round-is}
 use lib.Ieee.Scale.{round-same}
 use lib.IntN.{ℤ, pos}
 
--- ---- a change of sign
-neg-odd : (d : ℕ) (s : Bool) (q k l : ℕ) → neg (odd d s q k l) ≡ odd d (not s) q k l
-unfolding neg odd
-neg-odd d s zero k l = refl
-neg-odd d s (suc q) k l = refl
+-- ---- a value with another sign: g of its own
+abbrev pub signed : (g : Bool → Bool) → Float → Float
+signed g nan = nan
+signed g (inf s) = inf (g s)
+signed g (fin s m e) = fin (g s) m e
 
-neg-units : (f : Format) (s : Bool) (q k : ℕ) → neg (units f s q k) ≡ units f (not s) q k
+signed-odd : (g : Bool → Bool) (d : ℕ) (s : Bool) (q k l : ℕ) → signed g (odd d s q k l) ≡ odd d (g s) q k l
+unfolding odd
+signed-odd g d s zero k l = refl
+signed-odd g d s (suc q) k l = refl
+
+signed-units : (g : Bool → Bool) (f : Format) (s : Bool) (q k : ℕ) → signed g (units f s q k) ≡ units f (g s) q k
 unfolding units
-neg-units f s q k = go (ltb (q * 2 ^ k) (2 ^ (low f + suc (emax f))))
+signed-units g f s q k = go (ltb (q * 2 ^ k) (2 ^ (low f + suc (emax f))))
   where
-    go : (b : Bool) → neg (cond b (odd (suc (prec f)) s q k (low f)) (inf s)) ≡ cond b (odd (suc (prec f)) (not s) q k (low f)) (inf (not s))
-    go true = neg-odd (suc (prec f)) s q k (low f)
-    go false = unfold neg in refl
+    go : (b : Bool) → signed g (cond b (odd (suc (prec f)) s q k (low f)) (inf s)) ≡ cond b (odd (suc (prec f)) (g s) q k (low f)) (inf (g s))
+    go true = signed-odd g (suc (prec f)) s q k (low f)
+    go false = refl
+
+pub signed-round : (g : Bool → Bool) (f : Format) (s : Bool) (a c : ℕ) → signed g (round f s a c) ≡ round f (g s) a c
+signed-round g f s a c = ap (signed g) (round-is f s a c) ∙ signed-units g f s _ _ ∙ sym (round-is f (g s) a c)
+
+neg-signed : (x : Float) → neg x ≡ signed not x
+unfolding neg
+neg-signed nan = refl
+neg-signed (inf s) = refl
+neg-signed (fin s m e) = refl
 
 pub neg-round : (f : Format) (s : Bool) (a c : ℕ) → neg (round f s a c) ≡ round f (not s) a c
-neg-round f s a c = ap neg (round-is f s a c) ∙ neg-units f s _ _ ∙ sym (round-is f (not s) a c)
+neg-round f s a c = neg-signed (round f s a c) ∙ signed-round not f s a c
 
 -- ---- nothing rounds to a zero of its sign
-pub round-zero : (s : Bool) (c : ℕ) → 0 < c → round binary64 s 0 c ≡ fin s 0 (pos 0)
-round-zero s c C = round-same binary64 s 0 c 0 1 C (zero-lt-suc 0) (zero-mul 1 ∙ sym (zero-mul c)) ∙ unfold round in refl
+zero-is : (f : Format) (s : Bool) → round f s 0 1 ≡ fin s 0 (pos 0)
+unfolding round
+zero-is binary32 s = refl
+zero-is binary64 s = refl
+
+pub round-zero : (f : Format) (s : Bool) (c : ℕ) → 0 < c → round f s 0 c ≡ fin s 0 (pos 0)
+round-zero f s c C = round-same f s 0 c 0 1 C (zero-lt-suc 0) (zero-mul 1 ∙ sym (zero-mul c)) ∙ zero-is f s
 
 -- ---- a product
 pub mul-val : (f : Format) (x y : Float) (s t : Bool) (a c b d : ℕ) → 0 < c → 0 < d → HasValue x s a c → HasValue y t b d → mul f x y ≡ round f (unlike s t) (a * b) (c * d)

@@ -1,0 +1,1 @@
+// The bench sheet's rows: a table and its proof, and no code.

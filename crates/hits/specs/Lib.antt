@@ -1,0 +1,4 @@
+pub mod Outcome
+pub mod Sphere
+pub mod Plane
+pub mod Ring

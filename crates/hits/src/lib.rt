@@ -1,0 +1,163 @@
+// Where a ray hits a sphere or a ring.
+use root::root;
+use steps::Vector;
+use steps::along;
+use steps::dot;
+use steps::is_finite;
+use steps::is_finite_vector;
+use steps::minus;
+use steps::step;
+ghost use mathlib.Core.Path.{_≡_};
+ghost use Rattle.hits.specs.Outcome.{outcomeOf};
+ghost use Rattle.hits.specs.Plane.{planeHit};
+ghost use Rattle.hits.specs.Ring.{onRing, ringHit};
+ghost use Rattle.hits.specs.Sphere.{firstAbove, fromCentre, solved, sphereHit};
+
+pub struct Ray {
+    pub origin: Vector,
+    pub direction: Vector,
+}
+
+pub struct Sphere {
+    pub centre: Vector,
+    pub radius: f64,
+}
+
+pub struct Ring {
+    pub centre: Vector,
+    pub normal: Vector,
+    pub inner: f64,
+    pub outer: f64,
+}
+
+// A distance, a miss, or a refusal's number.
+pub enum Hit {
+    At(f64),
+    Miss,
+    Refused(u32),
+}
+
+fn first_above(near: f64, far: f64) -> Hit
+    ensures { λ r. ⌜ outcomeOf r ≡ firstAbove near far ⌝ }
+{
+    if near > 0.0 {
+        Hit::At(near)
+    } else if far > 0.0 {
+        Hit::At(far)
+    } else {
+        Hit::Miss
+    }
+}
+
+// From the discriminant on.
+fn solve(a: f64, b: f64, discriminant: f64) -> Hit
+    ensures { λ r. ⌜ outcomeOf r ≡ solved a b discriminant ⌝ }
+{
+    if !is_finite(discriminant) {
+        return Hit::Refused(20);
+    }
+    if discriminant < 0.0 {
+        return Hit::Miss;
+    }
+    let e = step(root(discriminant));
+    let near = step((-b - e) / a);
+    let far = step((-b + e) / a);
+    if !(is_finite(near) & is_finite(far)) {
+        return Hit::Refused(20);
+    }
+    first_above(near, far)
+}
+
+// From the origin as seen from the centre on.
+fn from_centre(p: Vector, d: Vector, radius: f64) -> Hit
+    ensures { λ r. ⌜ outcomeOf r ≡ fromCentre p d radius ⌝ }
+{
+    let a = dot(d, d);
+    if !(is_finite_vector(p) & is_finite(a)) {
+        return Hit::Refused(20);
+    }
+    if a == 0.0 {
+        return Hit::Refused(21);
+    }
+    let b = dot(p, d);
+    let q = step(dot(p, p) - radius * radius);
+    solve(a, b, step(b * b - a * q))
+}
+
+pub fn sphere_hit(ray: Ray, sphere: Sphere) -> Hit
+    ensures { λ r. ⌜ outcomeOf r ≡ sphereHit ray sphere ⌝ }
+{
+    let finite = is_finite_vector(ray.origin)
+        & is_finite_vector(ray.direction)
+        & is_finite_vector(sphere.centre)
+        & is_finite(sphere.radius);
+    if !finite {
+        return Hit::Refused(20);
+    }
+    if !(sphere.radius > 0.0) {
+        return Hit::Refused(21);
+    }
+    from_centre(
+        minus(ray.origin, sphere.centre),
+        ray.direction,
+        sphere.radius,
+    )
+}
+
+// The plane through c with the normal n.
+fn plane_hit(ray: Ray, c: Vector, n: Vector) -> Hit
+    ensures { λ r. ⌜ outcomeOf r ≡ planeHit ray c n ⌝ }
+{
+    let m = dot(ray.direction, n);
+    if !is_finite(m) {
+        return Hit::Refused(20);
+    }
+    if m == 0.0 {
+        return Hit::Miss;
+    }
+    let t = step(dot(minus(c, ray.origin), n) / m);
+    if !is_finite(t) {
+        return Hit::Refused(20);
+    }
+    if t > 0.0 { Hit::At(t) } else { Hit::Miss }
+}
+
+// Whether what the ray meets at the distance t in the ring's plane is the ring.
+fn on_ring(ray: Ray, ring: Ring, t: f64) -> Hit
+    ensures { λ r. ⌜ outcomeOf r ≡ onRing ray ring t ⌝ }
+{
+    let w = minus(along(ray.origin, t, ray.direction), ring.centre);
+    let s = dot(w, w);
+    let inner = step(ring.inner * ring.inner);
+    let outer = step(ring.outer * ring.outer);
+    if !(is_finite(s) & is_finite(inner) & is_finite(outer)) {
+        return Hit::Refused(20);
+    }
+    if (inner <= s) & (s <= outer) {
+        Hit::At(t)
+    } else {
+        Hit::Miss
+    }
+}
+
+pub fn ring_hit(ray: Ray, ring: Ring) -> Hit
+    ensures { λ r. ⌜ outcomeOf r ≡ ringHit ray ring ⌝ }
+{
+    let finite = is_finite_vector(ray.origin)
+        & is_finite_vector(ray.direction)
+        & is_finite_vector(ring.centre)
+        & is_finite_vector(ring.normal)
+        & is_finite(ring.inner)
+        & is_finite(ring.outer);
+    if !finite {
+        return Hit::Refused(20);
+    }
+    if !((0.0 <= ring.inner) & (ring.inner < ring.outer)) {
+        return Hit::Refused(21);
+    }
+    match plane_hit(ray, ring.centre, ring.normal) {
+        Hit::At(t) => on_ring(ray, ring, t),
+        Hit::Miss => Hit::Miss,
+        Hit::Refused(n) => Hit::Refused(n),
+    }
+}

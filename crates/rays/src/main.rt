@@ -1,0 +1,233 @@
+// The answer to each case on standard input: a ray at a sphere or a ring, a Fresnel value or a root. A case is a line: its
+// kind, and the bits of its doubles in hex.
+use fresnel::Reflection;
+use hits::Hit;
+use hits::Ray;
+use hits::Ring;
+use hits::Sphere;
+use libc::STDIN_FILENO;
+use libc::STDOUT_FILENO;
+use steps::Vector;
+ghost use Prim.Native.Nat.{_+_, _≤_};
+
+// A ring has the most.
+const NUMBERS: usize = 14;
+
+// Enough for a ring, whose line has 242 bytes.
+const LINE: usize = 512;
+
+enum Pattern {
+    Bits(u64),
+    Malformed,
+}
+
+// What a digit in lower case counts, or 16 for any other byte.
+fn hex_digit(b: u8) -> u8 {
+    match b {
+        b'0'..=b'9' => b - 48,
+        b'a'..=b'f' => b - 87,
+        _ => 16,
+    }
+}
+
+fn pattern_of(word: &[u8]) -> Pattern {
+    if word.len() != 16 {
+        return Pattern::Malformed;
+    }
+    let mut bits: u64 = 0;
+    let mut i = 0;
+    while i < word.len() {
+        let digit = hex_digit(word[i]);
+        if digit == 16 {
+            return Pattern::Malformed;
+        }
+        bits = bits << 4 | digit as u64;
+        i += 1;
+    }
+    Pattern::Bits(bits)
+}
+
+// A NaN has many patterns, and from_bits takes none of them.
+fn double_of(bits: u64) -> f64 {
+    if 0x7ff0000000000000 < bits % 0x8000000000000000 {
+        return 0.0 / 0.0;
+    }
+    f64::from_bits(bits)
+}
+
+// Reads the words from `at` on as doubles, and how many they are: more than there is room for where one is malformed.
+fn read_numbers(line: &[u8], at: usize, numbers: &mut [f64; NUMBERS]) -> usize {
+    let mut end = at;
+    let mut count = 0;
+    loop {
+        let word = lexer::next_word(line, end);
+        if word.len == 0 {
+            return count;
+        }
+        if count == NUMBERS {
+            return NUMBERS + 1;
+        }
+        match pattern_of(lexer::part(line, word.place, word.len)) {
+            Pattern::Bits(bits) => {
+                numbers[count] = double_of(bits);
+            }
+            Pattern::Malformed => {
+                return NUMBERS + 1;
+            }
+        }
+        count += 1;
+        end = lexer::word_end(line, word.place);
+    }
+}
+
+fn vector(numbers: &[f64; NUMBERS], from: usize) -> Vector
+    requires { ⌜ from + 3 ≤ 14 ⌝ }
+{
+    Vector {
+        x: numbers[from],
+        y: numbers[from + 1],
+        z: numbers[from + 2],
+    }
+}
+
+fn ray(numbers: &[f64; NUMBERS]) -> Ray {
+    Ray {
+        origin: vector(numbers, 0),
+        direction: vector(numbers, 3),
+    }
+}
+
+fn sphere(numbers: &[f64; NUMBERS]) -> Sphere {
+    Sphere {
+        centre: vector(numbers, 6),
+        radius: numbers[9],
+    }
+}
+
+fn ring(numbers: &[f64; NUMBERS]) -> Ring {
+    Ring {
+        centre: vector(numbers, 6),
+        normal: vector(numbers, 9),
+        inner: numbers[12],
+        outer: numbers[13],
+    }
+}
+
+fn print(text: &[u8]) {
+    io::write_all(STDOUT_FILENO, text);
+}
+
+// A double's bits after a blank. A NaN has none of its own.
+fn print_double(x: f64) {
+    if x == x {
+        print(b" ");
+        io::print_hex(STDOUT_FILENO, f64::to_bits(x), 16);
+    } else {
+        print(b" nan");
+    }
+}
+
+fn print_refusal(reason: u32) {
+    print(b"refused ");
+    io::print_decimal(STDOUT_FILENO, reason as u64);
+}
+
+fn print_hit(hit: Hit) {
+    match hit {
+        Hit::At(t) => {
+            print(b"at");
+            print_double(t);
+        }
+        Hit::Miss => print(b"miss"),
+        Hit::Refused(reason) => print_refusal(reason),
+    }
+}
+
+fn print_reflection(reflection: Reflection) {
+    match reflection {
+        Reflection::Coefficients(te, tm, f) => {
+            print(b"coefficients");
+            print_double(te);
+            print_double(tm);
+            print_double(f);
+        }
+        Reflection::Total => print(b"total"),
+        Reflection::Refused(reason) => print_refusal(reason),
+    }
+}
+
+fn print_answer(kind: &[u8], numbers: &[f64; NUMBERS], count: usize) {
+    if (count == 10) & lexer::same(kind, b"sphere") {
+        print_hit(hits::sphere_hit(ray(numbers), sphere(numbers)));
+    } else if (count == 14) & lexer::same(kind, b"ring") {
+        print_hit(hits::ring_hit(ray(numbers), ring(numbers)));
+    } else if (count == 3) & lexer::same(kind, b"fresnel") {
+        print_reflection(fresnel::fresnel(numbers[0], numbers[1], numbers[2]));
+    } else if (count == 1) & lexer::same(kind, b"root") {
+        print(b"root");
+        print_double(root::root(numbers[0]));
+    } else {
+        print(b"bad");
+    }
+    print(b"\n");
+}
+
+fn answer(line: &[u8]) {
+    let kind = lexer::next_word(line, 0);
+    let mut numbers = [0.0f64; NUMBERS];
+    let count = read_numbers(line, lexer::word_end(line, kind.place), &mut numbers);
+    print_answer(lexer::part(line, kind.place, kind.len), &numbers, count);
+}
+
+// Answers the first `len` bytes of a line; the line was too long where there are fewer.
+fn answer_line(line: &[u8], len: usize) {
+    if len <= line.len() {
+        answer(&line[..len]);
+    } else {
+        print(b"bad\n");
+    }
+}
+
+// Puts a byte after the `len` bytes of a line, as far as there is room, and answers the line where the byte ends it. The
+// line's new length is one above the room where it is too long.
+fn take_byte(line: &mut [u8; LINE], len: usize, b: u8) -> usize {
+    if b == b'\n' {
+        answer_line(line, len);
+        return 0;
+    }
+    if len < LINE {
+        line[len] = b;
+        return len + 1;
+    }
+    LINE + 1
+}
+
+fn take_bytes(line: &mut [u8; LINE], start: usize, bytes: &[u8]) -> usize {
+    let mut len = start;
+    let mut i = 0;
+    while i < bytes.len() {
+        len = take_byte(line, len, bytes[i]);
+        i += 1;
+    }
+    len
+}
+
+// A loop has to end: 65,536 buffers are 4 GiB.
+fn main() {
+    let mut buffer = io::large_buffer();
+    let mut line = [0u8; LINE];
+    let mut len = 0;
+    let mut turn: u32 = 0;
+    while turn < 65536 {
+        let n = io::read_full(STDIN_FILENO, &mut buffer);
+        len = take_bytes(&mut line, len, &buffer[..n]);
+        if n < buffer.len() {
+            break;
+        }
+        turn += 1;
+    }
+    // The last line may have no end of its own.
+    if 0 < len {
+        take_byte(&mut line, len, b'\n');
+    }
+}

@@ -1,0 +1,105 @@
+-- `root::next_digit` meets its contract.
+use mathlib.Core.Path.{_≡_, refl, sym, ap, _∙_, subst}
+use Prim.Native.Nat.{ℕ, _+_, _-_, _*_, _/_, _%_, _^_, _≤_, _<_}
+use native.Mathlib.Nat.{pow-suc, lt-of-lt-of-le}
+use native.Mathlib.Numerals.{add-one}
+use native.Mathlib.Omega.{arith}
+use borrow.Author.Needs.{needs}
+use lib.Pow.{pow-mono}
+use Rattle.root.specs.declared.Digits.{Digits}
+use Rattle.root.specs.Digits.{Found, OneMore}
+use Rattle.root.proofs.RootLaws.{square-next, square-twice}
+use Rattle.root.proofs.next_digit.Statement.{statement}
+use Rattle.root.proofs.next_digit.Tie as tie
+
+-- ---- the next digit of s, with `rest` left and two digits, `pair`, brought down
+abbrev Next : (s rest pair s' rest' : ℕ) → Type 0
+Next s rest pair s' rest' = (rest' ≤ s' * 2) × (s' ≤ s * 2 + 1) × (s' * s' + rest' ≡ 4 * (s * s + rest) + pair)
+
+sum-one : (a r s x y z : ℕ) → a ≡ 4 * s + (2 * (x * 2) + 1) → r + (4 * x + 1) ≡ 4 * y + z → a + r ≡ 4 * (s + y) + z
+sum-one a r s x y z e f = omega arith
+
+one : (s rest pair s' rest' : ℕ) → s < 2 ^ 53 → rest ≤ s * 2 → pair < 4 → s * 4 % 2 ^ 64 + 1 ≤ rest * 4 % 2 ^ 64 + pair
+    → s' ≡ s * 2 % 2 ^ 64 + 1 → rest' ≡ rest * 4 % 2 ^ 64 + pair - (s * 4 % 2 ^ 64 + 1) → Next s rest pair s' rest'
+one s rest pair s' rest' b h p t e f =
+    let d : s' ≡ s * 2 + 1 = omega arith in
+    let r : rest' + (4 * s + 1) ≡ 4 * rest + pair = omega arith in
+    (omega arith, omega arith, sum-one _ _ _ s _ _ (ap (λ (z : ℕ). z * z) d ∙ square-next (s * 2) ∙ ap (λ (z : ℕ). z + (2 * (s * 2) + 1)) (square-twice s)) r)
+
+sum-none : (a r s y z : ℕ) → a ≡ 4 * s → r ≡ 4 * y + z → a + r ≡ 4 * (s + y) + z
+sum-none a r s y z e f = omega arith
+
+none : (s rest pair s' rest' : ℕ) → s < 2 ^ 53 → rest ≤ s * 2 → pair < 4 → rest * 4 % 2 ^ 64 + pair < s * 4 % 2 ^ 64 + 1
+    → s' ≡ s * 2 % 2 ^ 64 → rest' ≡ rest * 4 % 2 ^ 64 + pair → Next s rest pair s' rest'
+none s rest pair s' rest' b h p t e f =
+    let d : s' ≡ s * 2 = omega arith in
+    let r : rest' ≡ 4 * rest + pair = omega arith in
+    (omega arith, omega arith, sum-none _ _ _ _ _ (ap (λ (z : ℕ). z * z) d ∙ square-twice s) r)
+
+-- ---- the two leading digits of w are brought down
+pair-small : (w : ℕ) → w < 2 ^ 54 → w / 2 ^ 52 < 4
+pair-small w h = omega arith
+
+shifted : (w : ℕ) → w < 2 ^ 54 → (w - w / 2 ^ 52 * 2 ^ 52 % 2 ^ 64) * 4 % 2 ^ 64 ≡ w % 2 ^ 52 * 4
+shifted w h = omega arith
+
+below : (w v : ℕ) → v ≡ w % 2 ^ 52 * 4 → v < 2 ^ 54
+below w v e = omega arith
+
+brought : (x w v y : ℕ) → v ≡ w % 2 ^ 52 * 4 → y ≡ 4 * x + w / 2 ^ 52 → y * 2 ^ 54 + v ≡ (x * 2 ^ 54 + w) * 4
+brought x w v y e f = omega arith
+
+-- ---- one digit more
+doubled : (s p s' : ℕ) → s' ≤ s * 2 + 1 → s < p → s' < p * 2
+doubled s p s' h k = omega arith
+
+root-53 : (d : Digits) → Found d → d .found < 53 → d .root < 2 ^ 53
+root-53 d f h = lt-of-lt-of-le (f .root-small) (pow-mono {i = d .found} {j = 53} (omega arith))
+
+more : (d e : Digits) → Found d → e .found ≡ d .found + 1 → e .number ≡ (d .number - d .number / 2 ^ 52 * 2 ^ 52 % 2 ^ 64) * 4 % 2 ^ 64
+    → Next (d .root) (d .rest) (d .number / 2 ^ 52) (e .root) (e .rest) → OneMore d e
+more d e f k v n =
+    let w : e .number ≡ d .number % 2 ^ 52 * 4 = v ∙ shifted (d .number) (f .number-small) in
+    let power : 2 ^ e .found ≡ 2 ^ d .found * 2 = ap (λ (j : ℕ). 2 ^ j) (k ∙ add-one (d .found)) ∙ pow-suc 2 (d .found) in
+    record {
+      found = record { root-small = subst (λ (p : ℕ). e .root < p) (sym power) (doubled (d .root) (2 ^ d .found) (e .root) (n .1) (f .root-small)); rest-small = n .0; number-small = below (d .number) (e .number) w };
+      same = brought (d .root * d .root + d .rest) (d .number) (e .number) (e .root * e .root + e .rest) w (n .2);
+      digit = k;
+    }
+
+sub-number : tie.Need-sub-number
+sub-number c = search needs
+
+add-rest : tie.Need-add-rest
+add-rest c = search needs
+
+add-trial : tie.Need-add-trial
+add-trial c = search needs
+
+add-t10 : tie.Need-add-t10
+add-t10 c = search needs
+
+add-t11 : tie.Need-add-t11
+add-t11 c = search needs
+
+returns : tie.Need-returns
+returns c =
+    let at = c .before .before in
+    let start = at .before .before .before .before .before in
+    let d = start .args .d in
+    let f = start .pre .0 in
+    more d _ f refl refl (one (d .root) (d .rest) (d .number / 2 ^ 52) _ _ (root-53 d f (start .pre .1)) (f .rest-small) (pair-small (d .number) (f .number-small)) (omega (arith, at .if1 .taken)) refl refl)
+
+add-t7 : tie.Need-add-t7
+add-t7 c = search needs
+
+returns-2 : tie.Need-returns-2
+returns-2 c =
+    let at = c .before .before in
+    let start = at .before .before .before .before .before in
+    let d = start .args .d in
+    let f = start .pre .0 in
+    more d _ f refl refl (none (d .root) (d .rest) (d .number / 2 ^ 52) _ _ (root-53 d f (start .pre .1)) (f .rest-small) (pair-small (d .number) (f .number-small)) (omega (arith, at .if1 .left)) refl refl)
+
+pub next-digit-spec : {M : Type 1} → statement M
+next-digit-spec = tie.close (tie.spec sub-number add-rest add-trial add-t10 add-t11 returns add-t7 returns-2)

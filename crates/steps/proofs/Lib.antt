@@ -1,0 +1,5 @@
+pub mod DoubleLaws
+pub mod StepLaws
+pub mod SignLaws
+pub mod SizeLaws
+pub mod RangeLaws

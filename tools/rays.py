@@ -1,0 +1,287 @@
+#!/usr/bin/env python3
+"""Ray hits, Fresnel values and roots: an implementation of its own of document 01's section "Rays and reflection".
+
+    tools/rays.py cases       a list of cases, one to a line (crates/rays/stdin)
+    tools/rays.py answers     the answers to standard input's cases (crates/rays/stdout)
+    tools/rays.py summary     how many cases there are of each kind, and how many of them have each answer
+
+A case is a kind and the bits of its doubles in hex: `sphere o d c r`, `ring o d c n inner outer`, `fresnel cos1 n1 n2`,
+`root x`, where o, d, c and n are three doubles each. A step is one operation of Python's floats, which are IEEE doubles
+rounded once; the root is taken of whole numbers, exactly."""
+import collections
+import math
+import random
+import re
+import struct
+import sys
+from fractions import Fraction
+from math import inf, nextafter
+
+SIZES = {"sphere": 10, "ring": 14, "fresnel": 3, "root": 1}
+LONGEST = 512  # bytes of a line, its end not counted
+
+
+def value(bits):
+    return struct.unpack(">d", bits.to_bytes(8, "big"))[0]
+
+
+def pattern(x):
+    return struct.pack(">d", x).hex()
+
+
+class Refused(Exception):
+    pass
+
+
+def step(x):
+    if not math.isfinite(x):
+        raise Refused(20)
+    return x
+
+
+def divide(x, y):
+    return step(x / y if y != 0 else inf)  # by 0 it is infinite or NaN: the same refusal
+
+
+def dot(v, w):
+    x, y, z = (step(a * b) for a, b in zip(v, w))
+    return step(step(x + y) + z)
+
+
+def in_range(test):
+    if not test:
+        raise Refused(21)
+
+
+def root(x):
+    """The largest double whose exact square is at most x. It is never subnormal, so it has the first 53 binary digits."""
+    if x == 0:
+        return 0.0
+    whole = math.isqrt(int(Fraction(x) * 4**1130))
+    cut = whole.bit_length() - 53
+    r = math.ldexp(whole >> cut, cut - 1130)
+    assert Fraction(r) ** 2 <= Fraction(x) < Fraction(nextafter(r, inf)) ** 2
+    return r
+
+
+def sphere(*inputs):
+    o, d, c, r = inputs[0:3], inputs[3:6], inputs[6:9], inputs[9]
+    in_range(r > 0)
+    p = [step(x - y) for x, y in zip(o, c)]
+    a = dot(d, d)
+    in_range(a != 0)
+    b = dot(p, d)
+    q = step(dot(p, p) - step(r * r))
+    discriminant = step(step(b * b) - step(a * q))
+    if discriminant < 0:
+        return "miss"
+    e = root(discriminant)
+    near, far = divide(step(-b - e), a), divide(step(-b + e), a)
+    return next(("at " + pattern(t) for t in (near, far) if t > 0), "miss")
+
+
+def plane(o, d, c, n):
+    """The t and the s of a ring's plane; nothing for a miss."""
+    m = dot(d, n)
+    if m == 0:
+        return None
+    t = divide(dot([step(x - y) for x, y in zip(c, o)], n), m)
+    if not t > 0:
+        return None
+    w = [step(step(x + step(t * y)) - z) for x, y, z in zip(o, d, c)]
+    return t, dot(w, w)
+
+
+def ring(*inputs):
+    inner, outer = inputs[12:14]
+    in_range(inner >= 0 and outer > inner)
+    met = plane(inputs[0:3], inputs[3:6], inputs[6:9], inputs[9:12])
+    if met is None:
+        return "miss"
+    t, s = met
+    low, high = step(inner * inner), step(outer * outer)
+    return "at " + pattern(t) if low <= s <= high else "miss"
+
+
+def fresnel(cos1, n1, n2):
+    in_range(0 <= cos1 <= 1 and n1 > 0 and n2 > 0)
+    k = divide(n1, n2)
+    t = step(step(k * k) * step(1 - step(cos1 * cos1)))
+    u = step(1 - t)
+    if u < 0:
+        return "total"
+    cos2 = root(u)
+    squares = []
+    for x, y in (step(n1 * cos1), step(n2 * cos2)), (divide(n1, cos1), divide(n2, cos2)):
+        quotient = divide(step(x - y), step(x + y))
+        squares.append(step(quotient * quotient))
+    values = squares + [step(step(0.5 * squares[0]) + step(0.5 * squares[1]))]
+    assert all(0 <= v <= 1 for v in values)
+    return "coefficients " + " ".join(map(pattern, values))
+
+
+def answer(line):
+    kind, *words = line.split() or [""]
+    if len(line) > LONGEST or SIZES.get(kind) != len(words) or not all(re.fullmatch("[0-9a-f]{16}", word) for word in words):
+        return "bad"
+    inputs = [value(int(word, 16)) for word in words]
+    if kind == "root":
+        return "root " + (pattern(root(inputs[0])) if 0 <= inputs[0] < inf else "nan")
+    try:
+        return {"sphere": sphere, "ring": ring, "fresnel": fresnel}[kind](*map(step, inputs))
+    except Refused as refused:
+        return "refused %d" % refused.args[0]
+
+
+LEAST, LARGEST, ULP = 2.0**-1074, nextafter(inf, 0), 2.0**-52
+NOT_FINITE = [inf, -inf] + [value(bits) for bits in (0x7FF8 << 48, 0xFFF8 << 48, (0x7FF << 52) + 1, 2**64 - 1)]
+EDGES = [0.0, -0.0, LEAST, -LEAST, 2.0**-1022, 2.0**-1022 - LEAST, 2.0**-537, 2.0**-538, 1e-160, 1e-8, 0.5, 1 - ULP / 2, 1.0, -1.0]
+EDGES += [1 + ULP, 2.0, -3.0, 1e8, 2.0**53, 1e150, -1e154, 2.0**511, 2.0**512, 1e160, -1e300, LARGEST, -LARGEST]
+AXES = [(1.0, 0.0, 0.0), (0.0, 1.0, 0.0), (0.0, 0.0, 1.0)]
+draw = random.Random(20261202)
+
+
+def beside(x, places=1):
+    """x, and so many doubles below and above it."""
+    made = [x]
+    for _ in range(places):
+        made = [nextafter(made[0], -inf)] + made + [nextafter(made[-1], inf)]
+    return made
+
+
+def spread():
+    return [draw.uniform(-10, 10) for _ in range(3)]
+
+
+def times(factor, v, w=(0, 0, 0)):
+    """w, further by so many times v."""
+    return [factor * x + y for x, y in zip(v, w)]
+
+
+def across(v):
+    """A vector of any direction at a right angle to v, of length 1, up to rounding."""
+    u = spread()
+    w = [v[1] * u[2] - v[2] * u[1], v[2] * u[0] - v[0] * u[2], v[0] * u[1] - v[1] * u[0]]
+    return times(1 / math.sqrt(dot(w, w)), w)
+
+
+def powers(count):
+    """Powers of two as factors: all near 1, or near the ends of what has a square, or anywhere."""
+    most = draw.choice((4, 500, 540, 1015))
+    return [2.0 ** draw.randint(-most, most) for _ in range(count)]
+
+
+def common(good, out_of_range):
+    """For any kind: NaN or infinity in each position, also where another is out of range, then edges and bare patterns."""
+    for i in range(len(good)):
+        yield from (good[:i] + [x] + good[i + 1 :] for x in NOT_FINITE)
+        yield out_of_range[:i] + [draw.choice(NOT_FINITE)] + out_of_range[i + 1 :]
+    for k in range(180):
+        yield [draw.choice(EDGES) if draw.random() < (0.2, 0.4, 0.9)[k % 3] else x for x in good]
+    yield from ([value(draw.getrandbits(64)) for _ in good] for _ in range(40))
+
+
+def spheres():
+    yield from ([*o, 0, 0, 1, 0, 0, 0, 1] for o in ((0, 0, -5), (0, 0, 0), (2, 0, -5), (1, 0, -5)))
+    for k in range(240):  # past or at the sphere, from inside, away from it; the last ones at all sizes
+        c, r = spread(), draw.uniform(0.1, 8)
+        o = times(r / 20, spread(), c) if k % 3 == 1 else times(2, spread())
+        d = times(draw.choice((-0.3, 1, 1.7)), times(r / 12, spread(), times(-1, o, c)))
+        i, j = powers(2) if k >= 120 else (1, 1)
+        yield [*times(i, o), *times(j, d), *times(i, c), i * r]
+    for r in (1.0, 0.1, 3.0, 7e-6):  # the line passes the centre at the radius or a few places beside it
+        for x in beside(r, 3):
+            yield from ([x, 0, -z, 0, 0, 1, 0, 0, 0, r] for z in (0.0, 0.3, 5.0, 1e4))
+    for k in range(1, 31):  # D is 0 and the direction no axis; D is near 0 by rounding
+        c, d, t, r, i = spread(), spread(), draw.randint(-50, 50), draw.uniform(0.1, 8), 2.0 ** draw.randint(-20, 20)
+        yield [i * (3 * t - 4 * k), i * (4 * t + 3 * k), 2, 3, 4, 0, 0, 0, 2, i * 5 * k]
+        yield from ([*times(-t / 20, d, times(r, across(d), c)), *d, *c, r] for _ in range(2))
+    yield from ([0, 0, -1.5 * 2.0**k, 0, 0, 2.0**-535, 0, 0, 0, 2.0**k] for k in range(486, 491))  # far alone is infinite, or both
+    for axis in AXES:  # from the surface: outwards, inwards, along it
+        for r in (1.0, 0.7, 2.0**-540, 2.0**500, 1e-300):
+            yield from ([*times(r, axis), *d, 0, 0, 0, r] for d in (axis, times(-1, axis), axis[1:] + axis[:1], spread()))
+    for r in (0.0, -0.0, -1.0, -LEAST, LEAST, 1.0):
+        for d in (0.0, -0.0, 1.0, 1e-170, 1e-162, 1e160):  # a is 0, or infinite; with 1e308 p is infinite
+            yield from ([x, 0, 0, d, 0, 0, -x, 0, 0, r] for x in (-2.5, 1e308))
+    yield from common([1, 2, -5, 0, 0, 1, 1.5, 2, 3, 2], [1, 2, -5, 0, 0, 1, 1.5, 2, 3, -1])
+
+
+def rings():
+    for k in range(40):  # s is beside a radius squared by rounding
+        o, c, n = spread(), spread(), spread()
+        d = times(draw.uniform(0, 0.1), across(n), times(-1, o, c))
+        r = root(plane(o, d, c, n)[1])
+        yield from ([*o, *d, *c, *n, *radii] for x in beside(r) for radii in ((x, 2 * x), (0, x)))
+    for k in range(180):  # through a point of the plane, on the ring or off it; the last ones at all sizes
+        o, c, n, inner = spread(), spread(), spread(), draw.choice((0.0, draw.uniform(0, 4)))
+        outer = inner + draw.uniform(0.1, 4)
+        d = times(draw.uniform(0.8 * inner, 1.2 * outer), across(n), times(-1, o, c))
+        i, j, m = powers(3) if k >= 80 else (1, draw.choice((-0.3, 1, 1.7)), 1)
+        yield [*times(i, o), *times(j, d), *times(i, c), *times(m, n), i * inner, i * outer]
+    for x, y, s in ((3, 4, 5), (-5, 12, 13), (0.1, 0, 0.1), (0, -0.3, 0.3)):  # s is at a radius squared or beside it
+        for i in (1, 2.0**-30, 2.0**-540, 2.0**500):
+            for r in beside(float(i * s), 2):
+                yield from ([i * x, i * y, -2, 0, 0, 0.5, 0, 0, 1, 0, 0, -1, *radii] for radii in ((r, 2 * r), (0, r)))
+    for axis in AXES[1:]:  # m is 0, also by underflow; from the plane and in it; away from it; c-o infinite
+        for x in (0.0, -0.0, -3.0, 3.0, -1e308, -LEAST):
+            for d in (axis, axis[1:] + axis[:1], times(1e-200, axis), times(LEAST, axis)):
+                yield from ([*times(x, axis), *d, *times(-x, axis), *n, 0, 8] for n in (axis, times(-1e-200, axis), (0, 0, 0)))
+    yield [0, 0, -5, *3 * [1e-200], 0, 0, 0, *3 * [-1e-200], 0, 8]  # m is -0
+    for radii in (0, 1), (-0.0, 1), (-1, 1), (-LEAST, 1), (LEAST, 1), (1, 1), (2, 1), (0, 0), (0, -0.0), (0, LEAST), (1, LARGEST):
+        yield from ([x, 0, -5, y, 0, 1 - y, 0, 0, 0, 0, 0, 1, *radii] for x in (0, 0.5) for y in (0, 1))
+    yield from common([1, 2, -5, 0, 0, 1, 1.5, 2, 3, 0, 0, 2, 0.25, 2], [1, 2, -5, 0, 0, 1, 1.5, 2, 3, 0, 0, 2, 2, 1])
+
+
+def fresnels():
+    yield from ([1, 1, 3], [0.5, 2, 1], [1, 1, 1], [0, 1, 1.5])
+    indices = (1.0, 1.000293, 1.333, 1.5, 1.52, 1.7, 2.417, 4.0)
+    for k in range(240):
+        i, j = powers(2) if k >= 160 else (1, 1)
+        yield [draw.random() * draw.choice((1, draw.random())), i * draw.choice(indices), j * draw.choice((*indices, draw.uniform(0.5, 3)))]
+    for n1, n2 in (5.0, 4), (5.0, 3), (13.0, 12), (2.0, 1), (1.5, 1), (1 + ULP, 1):  # u is 0 or beside it
+        yield from ([x, n, n2] for x in beside(math.sqrt((n1 - n2) * (n1 + n2)) / n1, 4) for n in beside(n1))
+    pairs = (1, 1), (1, 1.5), (1.5, 1), (1.5, 1.5), (LEAST, LEAST), (0, 1), (1, -0.0), (-1, 1), (1, -LEAST)
+    for cos1 in (0.0, -0.0, LEAST, 1e-300, 2.0**-538, 1e-9, 1 - ULP / 2, 1.0, 1 + ULP, 2.0, -LEAST, -1.0):
+        yield from ([cos1, *pair] for pair in pairs)
+    extremes = (LEAST, 2.0**-1022, 1e-200, 1e-154, 1.0, 1e154, 1e200, LARGEST)
+    yield from ([cos1, n1, n2] for n1 in extremes for n2 in extremes for cos1 in (1, 0.5, 1 - ULP / 2))
+    yield from common([0.75, 1, 1.5], [0.75, -1, 0])
+
+
+def roots():
+    xs = NOT_FINITE + EDGES + times(-1, EDGES, [-0.0] * len(EDGES)) + [LEAST * k for k in range(1, 65)]
+    xs += beside(1.0, 3) + beside(2.0**-1022, 3) + beside(LARGEST)[:2]
+    for square in [k * k for k in range(1, 41)] + [draw.getrandbits(26) ** 2 for _ in range(80)]:
+        xs += beside(square * 4.0 ** draw.choice((0, 0, draw.randint(-536, 480))))
+    for power in range(-1074, 1024, 5):
+        xs += beside(2.0**power)
+    for y in [2.0 ** draw.randint(-537, 510) * draw.uniform(1, 2) for _ in range(120)]:
+        xs += beside(y * y)
+    xs += [value(draw.getrandbits(63)) for _ in range(600)] + [value(draw.getrandbits(64)) for _ in range(40)]
+    return [[x] for x in xs]
+
+
+def cases():
+    for kind, made in ("sphere", spheres()), ("ring", rings()), ("fresnel", fresnels()), ("root", roots()):
+        yield from (" ".join([kind, *map(pattern, inputs)]) for inputs in made)
+    one = pattern(1.0)  # the rest are no cases, but for four with other blanks
+    words = ("", one[1:], one + "0", one[1:] + "g", one.upper(), "0x" + one[2:], one + " " + one, "\t" + one + " ")
+    yield from ("", " ", "cone " + one, "ring" + 15 * (" " + one), *("root " + word for word in words))
+    yield from (blanks * " " + "root " + one for blanks in (490, 491, 492, 4000, 0))
+
+
+if __name__ == "__main__":
+    if sys.argv[1:] == ["cases"]:
+        print("\n".join(cases()))
+    elif sys.argv[1:] == ["answers"]:
+        for case in sys.stdin.read().splitlines():
+            print(answer(case))
+    elif sys.argv[1:] == ["summary"]:
+        counts = collections.Counter()
+        for case in cases():
+            found = answer(case).split()
+            kind = case.split()[0] if found != ["bad"] else "no case"
+            counts.update([kind, kind + ": " + " ".join(word for word in found if len(word) < 16)])
+        print("\n".join("%6d %s" % (counts[name], name) for name in sorted(counts)))
+    else:
+        sys.exit(__doc__)

@@ -1,9 +1,9 @@
 -- The words of a text.
 use mathlib.Core.Bool.{cond}
-use Prim.Native.Nat.{ℕ}
+use Prim.Native.Nat.{ℕ, _+_}
 use lib.Dec.{leb}
 use lib.ListN.{length, drop}
-use Rattle.laws.specs.Bytes.{Bytes}
+use Rattle.laws.specs.Bytes.{Bytes, part}
 use Rattle.laws.specs.Runs.{all, run, past}
 use Rattle.lexer.specs.Class.{isBlank, isOther, isGood}
 use Rattle.lexer.specs.declared.Word.{Word}
@@ -14,6 +14,14 @@ unfoldable pub wordAt : Bytes → ℕ → Word
 wordAt text at =
     let place = past isBlank text at in
     record { place = place; len = run isOther (drop place text) }
+
+-- the bytes of that word
+abbrev pub wordBytes : Bytes → ℕ → Bytes
+wordBytes text at = part text (wordAt text at .place) (wordAt text at .len)
+
+-- where that word ends: the first place behind it
+abbrev pub wordEnd : Bytes → ℕ → ℕ
+wordEnd text at = wordAt text at .place + wordAt text at .len
 
 -- "2 bad byte in a word", "3 word over 64 bytes"; "at one place, the lowest number"; 0 for a good word
 unfoldable pub wordFault : Bytes → ℕ

@@ -4,7 +4,7 @@ ghost use Prim.Native.Nat.{min};
 ghost use Rattle.laws.specs.Bytes.{part, same};
 ghost use Rattle.laws.specs.Runs.{all, past};
 ghost use Rattle.lexer.specs.Class.{classOf, isBlank, isGood, isInLine, isOther, isRun};
-ghost use Rattle.lexer.specs.Word.{wordAt, wordFault};
+ghost use Rattle.lexer.specs.Word.{wordAt, wordBytes, wordEnd, wordFault};
 
 pub const BLANK: u8 = 0;
 
@@ -284,16 +284,17 @@ pub fn class_of(b: u8) -> u8
     CLASSES[b as usize]
 }
 
+// The loops over a text test the ranges themselves: a constant table is laid out anew at each use.
 pub fn is_blank(b: u8) -> bool
     ensures { λ r. ⌜ r ≡ isBlank b ⌝ }
 {
-    class_of(b) == BLANK
+    (9 <= b) & (b <= 13) | (b == 32)
 }
 
 fn is_good(b: u8) -> bool
     ensures { λ r. ⌜ r ≡ isGood b ⌝ }
 {
-    class_of(b) == GOOD
+    (33 <= b) & (b <= 126)
 }
 
 // The end of the run of blanks, or of other bytes, that starts at `at`: the first place from there on whose byte is none,
@@ -358,6 +359,22 @@ pub fn part(text: &[u8], place: usize, len: usize) -> &[u8]
     let start = least(place, text.len());
     let end = start + least(len, text.len() - start);
     &text[start..end]
+}
+
+// The bytes of the next word from `at` on.
+pub fn word_bytes(text: &[u8], at: usize) -> &[u8]
+    ensures { λ r. ⌜ now r ≡ wordBytes (now (text .entry)) at ⌝ }
+{
+    let word = next_word(text, at);
+    part(text, word.place, word.len)
+}
+
+// The first place behind the next word from `at` on.
+pub fn past_word(text: &[u8], at: usize) -> usize
+    ensures { λ r. ⌜ r ≡ wordEnd (now (text .entry)) at ⌝ }
+{
+    let word = next_word(text, at);
+    word.place + word.len
 }
 
 fn least(a: usize, b: usize) -> usize

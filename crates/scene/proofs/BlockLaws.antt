@@ -80,19 +80,19 @@ pub idle-parse : (r : Settings) (t : Bytes) (g : Going) → run r initial t ≡ 
 idle-parse r t g e p m = going-parse r t g e ∙ (λ i. pass (sym m i) (p i) (statements (g .above)))
 
 -- the text's four parts, read
-record Parts (r : Settings) (p a b q : Bytes) (es : List Entry) : Type 0 where
-  P : List Statement
-  A : List Statement
-  B : List Statement
-  Q : List Statement
-  all : statements es ≡ Q ++ (B ++ (A ++ P))
+pub record Parts (r : Settings) (p a b q : Bytes) (es : List Entry) : Type 0 where
+  pub P : List Statement
+  pub A : List Statement
+  pub B : List Statement
+  pub Q : List Statement
+  pub all : statements es ≡ Q ++ (B ++ (A ++ P))
   readP : parse r gap idle p ≡ pass gap idle P
   readA : parse r gap idle a ≡ pass gap idle A
   readB : parse r gap idle b ≡ pass gap idle B
   readQ : parse r gap idle (q ++ newline) ≡ pass gap idle Q
-  inP : inBlock 0 (length p) es ≡ P
-  inA : inBlock (length p) (length (p ++ a)) es ≡ A
-  inB : inBlock (length (p ++ a)) (length (p ++ a ++ b)) es ≡ B
+  pub inP : inBlock 0 (length p) es ≡ P
+  pub inA : inBlock (length p) (length (p ++ a)) es ≡ A
+  pub inB : inBlock (length (p ++ a)) (length (p ++ a ++ b)) es ≡ B
 
 in-four : (lo hi : ℕ) (x y z w : List Entry) → inBlock lo hi (x ++ (y ++ (z ++ w))) ≡ inBlock lo hi x ++ (inBlock lo hi y ++ (inBlock lo hi z ++ inBlock lo hi w))
 in-four lo hi x y z w = simp in-append
@@ -179,7 +179,7 @@ module _ (r : Settings) (p a b q : Bytes) (es : List Entry) (e : read r (p ++ a 
   pa : length p ≤ length (p ++ a)
   pa = omega (arith, length-append p a)
 
-  parts : Parts r p a b q es
+  pub parts : Parts r p a b q es
   parts = record {
     P = statements eP;
     A = statements eA;
@@ -209,6 +209,10 @@ pub record Swapped (r : Settings) (text : Bytes) (f : ℕ → ℕ) (old : List S
   pub reals : realsUsed (statements entries) ≡ realsUsed old
   pub renamed : Renamed f old (statements entries)
 
+-- the text with its blocks exchanged, read
+pub read-turned : (r : Settings) (p a b q : Bytes) (es : List Entry) (k : Parts r p a b q es) → parse r gap idle (p ++ b ++ a ++ q ++ newline) ≡ pass gap idle (k .Q ++ (k .A ++ (k .B ++ k .P)))
+read-turned r p a b q es k = ap (parse r gap idle) (append-assoc (p ++ b ++ a) q newline) ∙ join r (p ++ b ++ a) (q ++ newline) (k .A ++ (k .B ++ k .P)) (k .Q) (join r (p ++ b) a (k .B ++ k .P) (k .A) (join r p b (k .P) (k .B) (k .readP) (k .readB)) (k .readA)) (k .readQ)
+
 swapped : (r : Settings) (p a b q : Bytes) (es : List Entry) (k : Parts r p a b q es) → leb (length (p ++ a ++ b ++ q)) 65536 ≡ true → Sound r (statements es) → Clear (k .A) (k .B) → Clear (k .B) (k .A)
     → Swapped r (p ++ b ++ a ++ q) (shift (length (k .P)) (length (k .A)) (length (k .B))) (statements es)
 swapped r p a b q es k fits sound cab cba =
@@ -216,7 +220,7 @@ swapped r p a b q es k fits sound cab cba =
     let new : (x : List Entry) × (read r (p ++ b ++ a ++ q) ≡ accepted x) × (statements x ≡ k .Q ++ (k .A ++ (k .B ++ k .P))) =
     accept-back r (p ++ b ++ a ++ q) (k .Q ++ (k .A ++ (k .B ++ k .P)))
     (ap (λ n. leb n 65536) len ∙ fits)
-    (ap (parse r gap idle) (append-assoc (p ++ b ++ a) q newline) ∙ join r (p ++ b ++ a) (q ++ newline) (k .A ++ (k .B ++ k .P)) (k .Q) (join r (p ++ b) a (k .B ++ k .P) (k .A) (join r p b (k .P) (k .B) (k .readP) (k .readB)) (k .readA)) (k .readQ))
+    (read-turned r p a b q es k)
     (sound-swap r (k .P) (k .A) (k .B) (k .Q) cab cba (subst (Sound r) (k .all) sound)) in
     record {
       entries = new .0;

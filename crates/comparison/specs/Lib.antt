@@ -1,0 +1,5 @@
+pub mod Rows
+pub mod Key
+pub mod Compare
+pub mod Properties
+pub mod Next

@@ -34,6 +34,12 @@ module _ (t k : ℕ) (r : k ≡ t - 1) where
   unfolding typeName
   past-table h = sym (ap nameOf (no-row t k r h))
 
+-- the own bytes of the table's row t are the name of type t + 1
+pub named : (d : Name) (t : ℕ) → t < 25 → part (getD table t d .0) 0 (getD table t d .1) ≡ typeName (t + 1)
+named d t h =
+    let e : t ≡ t + 1 - 1 = omega arith in
+    own-bytes _ _ (in-table (t + 1) t e d h)
+
 -- a search past the last type, at the type that has the name, and past one that has not
 module _ (w : Bytes) (t : ℕ) where
   pub number-end : 25 ≤ t → numberFrom (t + 1) w (drop t types) ≡ 0

@@ -1,7 +1,7 @@
 // The 25 types: names, counts, house rules.
 ghost use mathlib.Core.Path.{_≡_};
 ghost use Prim.Native.Nat.{_-_};
-ghost use Rattle.laws.specs.Bytes.{same};
+ghost use Rattle.laws.specs.Bytes.{part, same};
 ghost use Rattle.scene.specs.HouseRules.{breachAt, houseRules, isAbove0, isAtLeast0, is0};
 ghost use Rattle.scene.specs.Types.{realsAllowed, stringsAllowed, typeName, typeNumber};
 ghost use Rattle.kinds.specs.Names.{padded};
@@ -163,10 +163,9 @@ pub fn type_name(t: u32) -> Name
     NAMES[k]
 }
 
-fn is_type(word: &[u8], t: u32) -> bool
-    ensures { λ r. ⌜ r ≡ same (now (word .entry)) (typeName t) ⌝ }
+fn is_named(word: &[u8], name: Name) -> bool
+    ensures { λ r. ⌜ r ≡ same (now (word .entry)) (part (name .0) 0 (name .1)) ⌝ }
 {
-    let name = type_name(t);
     let bytes = name.0;
     lexer::same(word, lexer::part(&bytes, 0, name.1))
 }
@@ -175,11 +174,13 @@ fn is_type(word: &[u8], t: u32) -> bool
 pub fn type_number(word: &[u8]) -> u32
     ensures { λ r. ⌜ r ≡ typeNumber (now (word .entry)) ⌝ }
 {
-    let mut t: u32 = 0;
+    let names = NAMES; // laid out once
+    let mut t: usize = 0;
     while t < 25 {
+        let name = names[t];
         t += 1;
-        if is_type(word, t) {
-            return t;
+        if is_named(word, name) {
+            return t as u32;
         }
     }
     0
@@ -259,17 +260,24 @@ fn breaks(rule: HouseRule, x: f64, previous: f64, first: f64) -> bool
 fn breaks_house(house: House, t: u32, count: u32, x: f64, previous: f64, first: f64) -> bool
     ensures { λ r. ⌜ r ≡ breached house t count x previous first ⌝ }
 {
+    if (house.0 != t) | (house.1 != count) {
+        return false;
+    }
     let rule = house.2;
-    (house.0 == t) & (house.1 == count) & breaks(rule, x, previous, first)
+    breaks(rule, x, previous, first)
 }
 
 // Whether real number `count` of a type, after `previous` and before that `first`, breaks a house rule.
 pub fn breaches(t: u32, count: u32, x: f64, previous: f64, first: f64) -> bool
     ensures { λ r. ⌜ r ≡ breachAt houseRules t count x previous first ⌝ }
 {
+    if (count < 3) | (8 < count) {
+        return false;
+    }
+    let houses = HOUSES; // laid out once
     let mut i = 0;
     while i < 24 {
-        let house = HOUSES[i];
+        let house = houses[i];
         if breaks_house(house, t, count, x, previous, first) {
             return true;
         }

@@ -17,7 +17,6 @@ pub enum Phase {
 
 // The record of the open statement, as far as it has been read.
 pub struct Draft {
-    pub kind: u32,
     pub modifier: u32,
     pub target: u32,
     pub name: u32,
@@ -26,6 +25,7 @@ pub struct Draft {
     pub strings: u32,
     pub real: u32,
     pub reals: u32,
+    pub kind: u32,
 }
 
 // How many records and reals there is room for.

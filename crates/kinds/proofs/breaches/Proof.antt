@@ -6,15 +6,18 @@ use lib.ListN.{drop}
 use Rattle.laws.specs.Bytes.{same}
 use Rattle.scene.specs.HouseRules.{breachAt, houseRules}
 use Rattle.scene.specs.Types.{numberFrom, typeNumber}
-use Rattle.kinds.proofs.HouseLaws.{breach-end, breach-hit, breach-miss}
+use Rattle.kinds.proofs.HouseLaws.{breach-end, breach-hit, breach-miss, no-rule}
 use Rattle.kinds.proofs.breaches.Statement.{statement}
 use Rattle.kinds.proofs.breaches.Tie as tie
 
 abbrev Inv-loop : tie.InvT-loop
-Inv-loop t count x previous first i₀ i = breachAt (drop i houseRules) t count x previous first ≡ breachAt houseRules t count x previous first
+Inv-loop t count x previous first houses i₀ i = breachAt (drop i houseRules) t count x previous first ≡ breachAt houseRules t count x previous first
 
 abbrev μ-loop : tie.MeasureT-loop
-μ-loop t count x previous first i₀ i = 24 - i
+μ-loop t count x previous first houses i₀ i = 24 - i
+
+returns : tie.Need-returns Inv-loop μ-loop
+returns c = no-rule _ _ _ _ _ (c .if1 .taken)
 
 loop-holds : tie.Need-loop-holds Inv-loop μ-loop
 loop-holds c = search needs
@@ -28,9 +31,9 @@ array-copy-out-house c = search needs
 breaks-house-requires : tie.Need-breaks-house-requires Inv-loop μ-loop
 breaks-house-requires c κs = search needs
 
-returns : tie.Need-returns Inv-loop μ-loop
+returns-2 : tie.Need-returns-2 Inv-loop μ-loop
 unfolding typeNumber numberFrom same
-returns c = sym (breach-hit _ _ _ _ _ _ _ (c .before .before .before .loop-test .taken) (sym (c .before .breaks-house .ensures) ∙ c .if1 .taken)) ∙ c .before .before .before .before .loop .inv
+returns-2 c = sym (breach-hit _ _ _ _ _ _ _ (c .before .before .before .loop-test .taken) (sym (c .before .breaks-house .ensures) ∙ c .if2 .taken)) ∙ c .before .before .before .before .loop .inv
 
 add-i : tie.Need-add-i Inv-loop μ-loop
 add-i c = search needs
@@ -40,10 +43,10 @@ loop-less c = search needs
 
 loop-again : tie.Need-loop-again Inv-loop μ-loop
 unfolding typeNumber numberFrom same
-loop-again c = breach-miss _ _ _ _ _ _ _ (c .before .before .before .loop-test .taken) (sym (c .before .breaks-house .ensures) ∙ c .if1 .left) ∙ c .before .before .before .before .loop .inv
+loop-again c = breach-miss _ _ _ _ _ _ _ (c .before .before .before .loop-test .taken) (sym (c .before .breaks-house .ensures) ∙ c .if2 .left) ∙ c .before .before .before .before .loop .inv
 
-returns-2 : tie.Need-returns-2 Inv-loop μ-loop
-returns-2 c = sym (breach-end _ _ _ _ _ _ (c .loop-test .left)) ∙ c .before .loop .inv
+returns-3 : tie.Need-returns-3 Inv-loop μ-loop
+returns-3 c = sym (breach-end _ _ _ _ _ _ (c .loop-test .left)) ∙ c .before .loop .inv
 
 pub breaches-spec : {M : Type 1} → statement M
 breaches-spec =
@@ -51,12 +54,13 @@ breaches-spec =
     (tie.spec
     Inv-loop
     μ-loop
+    returns
     loop-holds
     mul-house
     array-copy-out-house
     breaks-house-requires
-    returns
+    returns-2
     add-i
     loop-less
     loop-again
-    returns-2)
+    returns-3)

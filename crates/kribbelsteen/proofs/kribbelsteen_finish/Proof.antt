@@ -1,0 +1,22 @@
+-- `kribbelsteen::kribbelsteen_finish` meets its contract.
+use mathlib.Core.List.{List, [], _∷_}
+use mathlib.Core.Path.{_≡_, sym, ap, _∙_}
+use Prim.Native.Nat.{ℕ}
+use borrow.Author.Needs.{needs}
+use Rattle.finish.specs.Walk.{numbersOf}
+use Rattle.finish.specs.declared.Finish.{Finish}
+use Rattle.kribbelsteen.proofs.kribbelsteen_finish.Statement.{statement}
+use Rattle.kribbelsteen.proofs.kribbelsteen_finish.Tie as tie
+
+returns : tie.Need-returns
+returns c =
+    let f = sym (c .before .before .primitive .given .1) ∙ c .before .before .before .before .finish-of .ensures in
+    (ap (λ (z : Finish). numbersOf z .reason) f, ap (λ (z : Finish). numbersOf z .primitive ∷ numbersOf z .links ∷ []) f)
+
+returns-2 : tie.Need-returns-2
+returns-2 c =
+    let f = sym (c .before .before .reason .given .1) ∙ c .before .before .before .before .finish-of .ensures in
+    (ap (λ (z : Finish). numbersOf z .reason) f, ap (λ (z : Finish). numbersOf z .primitive ∷ numbersOf z .links ∷ []) f)
+
+pub kribbelsteen-finish-spec : {M : Type 1} → statement M
+kribbelsteen-finish-spec = tie.close (tie.spec (λ c κs. tt) (λ c. search needs) (λ c. search needs) returns returns-2)

@@ -1,0 +1,15 @@
+-- `kribbelsteen::kribbelsteen_sphere` meets its contract.
+use mathlib.Core.Path.{_≡_, ap, _∙_}
+use Rattle.hits.specs.Sphere.{sphereHit}
+use Rattle.kribbelsteen.specs.Host.{hitKind, hitValues}
+use Rattle.kribbelsteen.proofs.kribbelsteen_sphere.Statement.{statement}
+use Rattle.kribbelsteen.proofs.kribbelsteen_sphere.Tie as tie
+
+returns : tie.Need-returns
+returns c =
+    let s = c .before .before .before in
+    let o = c .before .before .sphere-hit .ensures ∙ (λ i. sphereHit (s .before .ray-in .ensures i) (s .sphere-in .ensures i)) in
+    (c .tell-hit .ensures .0 ∙ ap hitKind o, c .tell-hit .ensures .1 ∙ ap hitValues o)
+
+pub kribbelsteen-sphere-spec : {M : Type 1} → statement M
+kribbelsteen-sphere-spec = tie.close (tie.spec (λ c κs. tt) (λ c κs. tt) (λ c κs. tt) (λ c κs. tt) returns)

@@ -1,0 +1,12 @@
+-- `kribbelsteen::ray_in` meets its contract.
+use borrow.Author.Needs.{needs}
+use Rattle.kribbelsteen.specs.Host.{rayIn}
+use Rattle.kribbelsteen.proofs.ray_in.Statement.{statement}
+use Rattle.kribbelsteen.proofs.ray_in.Tie as tie
+
+returns : tie.Need-returns
+unfolding rayIn
+returns c = cc
+
+pub ray-in-spec : {M : Type 1} → statement M
+ray-in-spec = tie.close (tie.spec (λ c. search needs) (λ c. search needs) (λ c. search needs) (λ c κs. tt) (λ c. search needs) (λ c. search needs) (λ c. search needs) (λ c κs. tt) returns)

@@ -1,0 +1,191 @@
+//! How fast the library reads, beside a reader of the usual kind in Rust and a bare scan of the bytes, on the same texts in one run.
+//!
+//! Each time is the median of several rounds; in each round the three take turns, so that all meet the same state of the machine.
+//! Both readers clear the whole of both tables first.
+
+#[path = "../reference/mod.rs"]
+mod reference;
+
+use kribbelsteen::{raw, MOST_BYTES, MOST_PRIMITIVES, MOST_REALS, RECORD};
+use reference::scene;
+use std::hint::black_box;
+use std::time::{Duration, Instant};
+
+const ROUNDS: usize = 21;
+const ROUND: Duration = Duration::from_millis(15);
+
+// ---- texts
+
+/// A control room of so many primitives: materials, surfaces that have them, aliases and comments.
+fn room(primitives: usize) -> String {
+    let mut text = String::from("# Control room\n");
+    for n in 0..primitives {
+        let finish = format!("finish_{}", n / 10);
+        text += &match n % 10 {
+            0 => format!("\n# Panels of rack {0}\nvoid plastic {finish}\n0 0 5 .52 .36 .2 .03 .1\n", n / 10),
+            1 => format!("void light lamp_{n}\n0 0 3 40 40 38.5\n"),
+            2 => format!("void alias trim_{n} {finish}\n"),
+            3 => format!("trim_{} sphere knob_{n} 0 0 4 {n} 1.25 -2 .06\n", n - 1),
+            4 => format!("{finish} ring rim_{n} 0 0 8 1 2 {n} 0 0 1 .5 .75\n"),
+            5 => format!("{finish} alias edge_{n} {finish}\n"),
+            6 => format!("lamp_{} sphere bulb_{n} 0 0 4 1.2 1 {n}.5 6e-2\n", n - 5),
+            7 => format!("edge_{} bubble dome_{n}\n0\n0\n4 3 4 5 {n}.125\n", n - 2),
+            8 => format!("void glass pane_{n} 0 0 3 .96 .96 .96\n"),
+            _ => format!("pane_{} sphere lens_{n} 0 0 4 -1 0 {n} .002\n", n - 1),
+        };
+    }
+    text
+}
+
+/// A full file of small primitives whose names differ at the end and whose modifiers all lead to the first: the longest way for a
+/// search from the latest name back.
+fn far_back() -> String {
+    let name = |n: usize| format!("panel_of_the_desk_{n:04}");
+    let line = |modifier: &str, n: usize| format!("{modifier} light {} 0 0 3 1 1 1\n", name(n));
+    let mut text = line("void", 0);
+    (1..MOST_PRIMITIVES).for_each(|n| text += &line(&name(0), n));
+    text.extend(std::iter::repeat_n('#', MOST_BYTES - text.len()));
+    text
+}
+
+/// As many reals as there may be, most of them corners of polygons.
+fn many_reals() -> String {
+    let corner = |n: usize| format!(" {}.{:03} -{}e-3 .{:04}\n", n % 7, n % 1000, n % 977, n % 10_000);
+    let mut text = String::from("void glow shine 0 0 4 1 1 1 0\n");
+    for n in 0..(MOST_REALS - 4) / 12 {
+        text += &format!("shine polygon panel_{n} 0 0 12");
+        (4 * n..4 * n + 4).for_each(|n| text += &corner(n));
+    }
+    text
+}
+
+// ---- what is timed
+
+/// 0 blank, 1 good in a word, 2 bad.
+const CLASSES: [u8; 256] = {
+    let mut classes = [2; 256];
+    let mut byte = 0;
+    while byte < 256 {
+        classes[byte] = match byte {
+            9..=13 | 32 => 0,
+            33..=126 => 1,
+            _ => 2,
+        };
+        byte += 1;
+    }
+    classes
+};
+
+/// The least that any reader does: looks up the class of each byte. Counts where the class changes, so that the work is not
+/// dropped.
+fn scan(text: &[u8]) -> usize {
+    let (mut last, mut changes) = (0, 0);
+    for &byte in text {
+        let class = CLASSES[usize::from(byte)];
+        changes += usize::from(class != last);
+        last = class;
+    }
+    changes
+}
+
+fn scan_bytes(text: &[u8]) {
+    black_box(scan(black_box(text)));
+}
+
+struct Tables {
+    records: Vec<u32>,
+    reals: Vec<f64>,
+}
+
+impl Tables {
+    fn new() -> Self {
+        Tables { records: vec![0; RECORD * MOST_PRIMITIVES], reals: vec![0.0; MOST_REALS] }
+    }
+
+    fn read_by_library(&mut self, text: &[u8]) {
+        black_box(raw::read(black_box(text), &mut self.records, &mut self.reals));
+    }
+
+    fn read_by_reference(&mut self, text: &[u8]) {
+        let _ = black_box(scene::read(black_box(text), &mut self.records, &mut self.reals));
+    }
+}
+
+/// Seconds for one call, over so many.
+fn time(calls: usize, mut work: impl FnMut()) -> f64 {
+    let start = Instant::now();
+    (0..calls).for_each(|_| work());
+    start.elapsed().as_secs_f64() / calls as f64
+}
+
+/// So many calls that they take about a round.
+fn calls_of(mut work: impl FnMut()) -> usize {
+    let mut calls = 1;
+    loop {
+        let taken = time(calls, &mut work) * calls as f64;
+        if taken >= ROUND.as_secs_f64() {
+            return calls;
+        }
+        calls *= 2;
+    }
+}
+
+fn median(mut times: Vec<f64>) -> f64 {
+    times.sort_by(f64::total_cmp);
+    times[times.len() / 2]
+}
+
+/// Seconds per text: library, reference, scan.
+fn measure(text: &[u8]) -> [f64; 3] {
+    let (mut ours, mut theirs) = (Tables::new(), Tables::new());
+    let calls = [
+        calls_of(|| ours.read_by_library(text)),
+        calls_of(|| theirs.read_by_reference(text)),
+        calls_of(|| scan_bytes(text)),
+    ];
+    assert!(ours.records == theirs.records && ours.reals == theirs.reals, "both readers fill the same tables");
+    let mut times = [(); 3].map(|()| Vec::with_capacity(ROUNDS));
+    for _ in 0..ROUNDS {
+        times[0].push(time(calls[0], || ours.read_by_library(text)));
+        times[1].push(time(calls[1], || theirs.read_by_reference(text)));
+        times[2].push(time(calls[2], || scan_bytes(text)));
+    }
+    times.map(median)
+}
+
+fn report(what: &str, text: &str) {
+    let text = text.as_bytes();
+    let mut tables = Tables::new();
+    let (reason, [_, primitives, reals]) = raw::read(text, &mut tables.records, &mut tables.reals);
+    assert_eq!(reason, 0, "{what} is accepted");
+    let [ours, theirs, floor] = measure(text);
+    let speed = |seconds: f64| text.len() as f64 / seconds / 1e6;
+    println!(
+        "{what:<18} {:>6} {primitives:>6} {reals:>6} | {:>10.2} {:>10.2} {:>8.2} | {:>7.1} {:>7.1} {:>7.0} | {:>8.2} {:>8.1}",
+        text.len(),
+        ours * 1e6,
+        theirs * 1e6,
+        floor * 1e6,
+        speed(ours),
+        speed(theirs),
+        speed(floor),
+        ours / theirs,
+        ours / floor,
+    );
+}
+
+fn main() {
+    println!(
+        "{:<18} {:>6} {:>6} {:>6} | {:>10} {:>10} {:>8} | {:>7} {:>7} {:>7} | {:>8} {:>8}",
+        "", "", "primi-", "", "library", "reference", "scan", "library", "refer.", "scan", "library/", "library/",
+    );
+    println!(
+        "{:<18} {:>6} {:>6} {:>6} | {:>10} {:>10} {:>8} | {:>7} {:>7} {:>7} | {:>8} {:>8}",
+        "scene", "bytes", "tives", "reals", "us", "us", "us", "MB/s", "MB/s", "MB/s", "referen.", "scan",
+    );
+    report("10 primitives", &room(10));
+    report("100 primitives", &room(100));
+    report("1,000 primitives", &room(1_000));
+    report("modifiers far back", &far_back());
+    report("4,096 reals", &many_reals());
+}

@@ -1,0 +1,143 @@
+/* Kribbelsteen: a verified reader of Radiance scene texts, ray hits and Fresnel values.
+ *
+ * Link with libkribbelsteen.a. The functions keep nothing between calls, allocate nothing and may be called by several threads
+ * at once, each on memory of its own.
+ *
+ * Every pointer leads to as many elements as its length or its array type says, is aligned for them and is not NULL, also where
+ * the length is 0. What a call writes overlaps nothing else that it is given. Beyond that every input is allowed: whatever the
+ * bytes and numbers are, a call ends and answers as written here, and it always writes the whole of its `answer`.
+ *
+ * Places are counted in bytes from the text's start, from 0. Primitives are numbered from 1, and 0 stands for none. */
+#ifndef KRIBBELSTEEN_H
+#define KRIBBELSTEEN_H
+
+#include <stddef.h>
+#include <stdint.h>
+
+#ifdef __cplusplus
+extern "C" {
+#endif
+
+/* Limits of a scene: bytes of a text, bytes of a word, primitives, reals. */
+#define KRIBBELSTEEN_MOST_BYTES 65536
+#define KRIBBELSTEEN_LONGEST_WORD 64
+#define KRIBBELSTEEN_MOST_PRIMITIVES 1024
+#define KRIBBELSTEEN_MOST_REALS 4096
+
+/* Numbers in a record, and where each stands in it. Record n begins at entry KRIBBELSTEEN_RECORD * (n - 1). */
+#define KRIBBELSTEEN_RECORD 10
+enum kribbelsteen_field {
+    KRIBBELSTEEN_TYPE = 0,         /* 1 source to 9 ring: surfaces; 10 light to 24 antimatter: materials; 25 mixfunc */
+    KRIBBELSTEEN_MODIFIER = 1,     /* the primitive that the modifier leads to, 0 for `void` */
+    KRIBBELSTEEN_ALIAS = 2,        /* the primitive that an alias leads to, 0 if this is no alias */
+    KRIBBELSTEEN_NAME = 3,         /* place of the name */
+    KRIBBELSTEEN_NAME_LENGTH = 4,  /* bytes of the name */
+    KRIBBELSTEEN_STRING = 5,       /* place of the first string, 0 if there is none */
+    KRIBBELSTEEN_STRINGS = 6,      /* how many strings */
+    KRIBBELSTEEN_REAL = 7,         /* index of the first real in the table of reals, 0 also if there is none */
+    KRIBBELSTEEN_REALS = 8,        /* how many reals */
+    KRIBBELSTEEN_NEXT = 9          /* the next primitive of the same name, 0 if there is none */
+};
+
+/* Why something is refused. */
+enum kribbelsteen_reason {
+    KRIBBELSTEEN_ACCEPTED = 0,
+    /* kribbelsteen_read; in brackets the place that is answered */
+    KRIBBELSTEEN_TEXT_TOO_LONG = 1,     /* text over 65,536 bytes (0) */
+    KRIBBELSTEEN_BAD_BYTE = 2,          /* a word with a byte outside 33 to 126 (the word) */
+    KRIBBELSTEEN_WORD_TOO_LONG = 3,     /* a word over 64 bytes (the word) */
+    KRIBBELSTEEN_COMMAND = 4,           /* a command (its `!`) */
+    KRIBBELSTEEN_TEXT_ENDS = 5,         /* the text ends inside a statement (text length) */
+    KRIBBELSTEEN_NO_RECORD_ROOM = 6,    /* no room for a record (its modifier) */
+    KRIBBELSTEEN_NO_MODIFIER = 7,       /* modifier not defined above (modifier) */
+    KRIBBELSTEEN_UNKNOWN_TYPE = 8,      /* unknown type (type) */
+    KRIBBELSTEEN_NAME_IS_VOID = 9,      /* the name is `void` (name) */
+    KRIBBELSTEEN_NO_TARGET = 10,        /* alias target not defined above (target) */
+    KRIBBELSTEEN_SURFACE_TARGET = 11,   /* alias target is a surface (target) */
+    KRIBBELSTEEN_BAD_COUNT = 12,        /* count badly formed or not allowed (count) */
+    KRIBBELSTEEN_NO_REAL_ROOM = 13,     /* no room for the reals (real count) */
+    KRIBBELSTEEN_BAD_NUMERAL = 14,      /* breaks the numeral rule (numeral) */
+    KRIBBELSTEEN_NUMERAL_RANGE = 15,    /* coefficient or power too large (numeral) */
+    KRIBBELSTEEN_HOUSE_RULE = 16,       /* breaks a house rule (the real that completes the breach) */
+    /* kribbelsteen_name and kribbelsteen_finish */
+    KRIBBELSTEEN_NO_SUCH_PRIMITIVE = 17,
+    KRIBBELSTEEN_BAD_TABLE = 18,
+    KRIBBELSTEEN_ALLOWANCE = 19,
+    /* kribbelsteen_sphere, kribbelsteen_ring and kribbelsteen_fresnel */
+    KRIBBELSTEEN_NOT_FINITE = 20,
+    KRIBBELSTEEN_OUT_OF_RANGE = 21
+};
+
+/* The other answers of the hit routines (1: the ray misses) and of Fresnel (1: total reflection). */
+#define KRIBBELSTEEN_MISS 1
+#define KRIBBELSTEEN_TOTAL_REFLECTION 1
+
+/* Reads a scene text into two tables.
+ *
+ * There is room for the lesser of 1,024 and records_len / 10 records, and for the lesser of 4,096 and reals_len reals.
+ * Returns 0 if the scene is accepted, else the reason, 1 to 16; the earliest place decides, and at one place the lowest number.
+ * answer: place of the refusal, number of primitives, number of reals. An accepted scene has place 0, a refused one both
+ * numbers 0.
+ * Writes both tables whole, whatever they held: after acceptance all entries beyond those used are 0, and after a refusal all
+ * entries are 0. The text is not written. */
+uint32_t kribbelsteen_read(const uint8_t *text, size_t text_len, uint32_t *records, size_t records_len, double *reals,
+                           size_t reals_len, size_t answer[3]);
+
+/* The name of a primitive, in a table of `count` records that may hold anything.
+ *
+ * Returns 0, or refuses: 18 if count is over 1,024 or more than the table holds, then 17 if number is 0 or above count, then 18
+ * if the name has length 0 or lies outside the text.
+ * answer: place and length of the name in the text; 0 and 0 on a refusal. Nothing else is written. */
+uint32_t kribbelsteen_name(const uint8_t *text, size_t text_len, const uint32_t *records, size_t records_len, size_t count,
+                           size_t number, size_t answer[2]);
+
+/* The finish of a primitive: the first material that its modifier links lead to, in a table of `count` records that may hold
+ * anything. The primitive's own type does not matter; a surface or a mixfunc on the way is passed through. At most `allowance`
+ * links are followed; one less than the number is enough for every primitive.
+ *
+ * Returns 0, or refuses: 18 and 17 as kribbelsteen_name does for count and number; on the way 18 for a link that is not below its
+ * own primitive, 19 if another link is needed and the allowance is used up, 18 for a reached type outside 1 to 25.
+ * answer: the material's number, 0 if there is none, and how many links were followed. A refusal has number 0, and the links are
+ * the allowance for 19, else 0. Nothing else is written. */
+uint32_t kribbelsteen_finish(const uint32_t *records, size_t records_len, size_t count, size_t number, size_t allowance,
+                             size_t answer[2]);
+
+/* The word at or after a place. Blanks are the bytes 9 to 13 and 32, and a word is a longest run of other bytes from there on;
+ * comments are not known here. From inside a word the rest of it is found. Go on from place + length.
+ *
+ * answer: place and length of the word; where there is none, and for a place at or past the end, the text's length and 0.
+ * There is no refusal, and nothing else is written. */
+void kribbelsteen_next_word(const uint8_t *text, size_t text_len, size_t at, size_t answer[2]);
+
+/* Where a ray hits a sphere.
+ *
+ * ray: origin x y z, direction x y z. sphere: centre x y z, radius.
+ * Returns 0 for a hit and 1 for a miss, or refuses: 20 if an input is NaN or infinite; 21 for a radius not above 0; then by the
+ * first step that fails 20 for a result that is NaN or infinite, 21 for a direction whose dot product with itself is 0.
+ * answer: the distance, in lengths of the direction, above 0; 0 on a miss or a refusal. Nothing else is written. */
+uint32_t kribbelsteen_sphere(const double ray[6], const double sphere[4], double answer[1]);
+
+/* Where a ray hits a ring.
+ *
+ * ray: origin x y z, direction x y z. ring: centre x y z, normal x y z, inner radius, outer radius.
+ * Returns 0 for a hit and 1 for a miss, or refuses: 20 if an input is NaN or infinite; 21 for an inner radius below 0 or an outer
+ * one not above it; then 20 for a step whose result is NaN or infinite.
+ * answer: the distance, in lengths of the direction, above 0; 0 on a miss or a refusal. Nothing else is written. */
+uint32_t kribbelsteen_ring(const double ray[6], const double ring[8], double answer[1]);
+
+/* Fresnel's coefficients for light that comes at a cosine cos1 from index n1 to index n2.
+ *
+ * Returns 0 for coefficients and 1 for total reflection, or refuses: 20 if an input is NaN or infinite; 21 for a cosine outside 0
+ * to 1 or an index not above 0; then 20 for a step whose result is NaN or infinite.
+ * answer: FTE, FTM and F, each from 0 to 1; 0 0 0 on total reflection or a refusal. Nothing else is written. */
+uint32_t kribbelsteen_fresnel(double cos1, double n1, double n2, double answer[3]);
+
+/* The root of x: the largest double whose exact square is at most x, and +0 for either zero. It is rounded down, where sqrt
+ * rounds to nearest. NaN where there is none: below 0, for an infinity and for NaN. Nothing is written. */
+double kribbelsteen_root(double x);
+
+#ifdef __cplusplus
+}
+#endif
+
+#endif

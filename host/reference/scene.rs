@@ -1,0 +1,521 @@
+//! A reader of scene texts, as one would write it in Rust: names are looked up in a hash map, and `?` ends the reading at the first
+//! word that is refused. It fills the same two tables as the library, and gives the same reasons and places.
+
+use std::collections::HashMap;
+
+pub const MOST_BYTES: usize = 65_536;
+pub const LONGEST_WORD: usize = 64;
+pub const MOST_RECORDS: usize = 1_024;
+pub const MOST_REALS: usize = 4_096;
+/// How many numbers a record has.
+pub const RECORD: usize = 10;
+
+const TYPE: usize = 0;
+const MODIFIER: usize = 1;
+const NAME: usize = 3;
+const NAME_LENGTH: usize = 4;
+const NEXT: usize = 9;
+
+/// Why a scene is refused, and where.
+#[derive(Clone, Copy, Debug, PartialEq, Eq)]
+pub struct Refused {
+    pub reason: u32,
+    pub place: usize,
+}
+
+/// What an accepted scene holds.
+#[derive(Clone, Copy, Debug, PartialEq, Eq)]
+pub struct Counts {
+    pub primitives: usize,
+    pub reals: usize,
+}
+
+fn refuse<T>(reason: u32, place: usize) -> Result<T, Refused> {
+    Err(Refused { reason, place })
+}
+
+/// Reads a scene into both tables, which are all zero after a refusal.
+pub fn read(text: &[u8], records: &mut [u32], reals: &mut [f64]) -> Result<Counts, Refused> {
+    records.fill(0);
+    reals.fill(0.0);
+    let answer = Reader::new(text, records, reals).scene();
+    if answer.is_err() {
+        records.fill(0);
+        reals.fill(0.0);
+    }
+    answer
+}
+
+// ---- words
+
+pub fn is_blank(byte: u8) -> bool {
+    matches!(byte, 9..=13 | 32)
+}
+
+/// A part of the text that is a word.
+#[derive(Clone, Copy)]
+struct Word<'t> {
+    place: usize,
+    bytes: &'t [u8],
+}
+
+/// Place and length of the word at or after a place.
+pub fn next_word(text: &[u8], at: usize) -> (usize, usize) {
+    let rest = text.get(at..).unwrap_or_default();
+    match rest.iter().position(|&b| !is_blank(b)) {
+        None => (text.len(), 0),
+        Some(skipped) => {
+            let word = &rest[skipped..];
+            let len = word.iter().position(|&b| is_blank(b)).unwrap_or(word.len());
+            (at + skipped, len)
+        }
+    }
+}
+
+// ---- types
+
+#[derive(Clone, Copy, PartialEq, Eq)]
+#[repr(u32)]
+enum Kind {
+    Source = 1,
+    Sphere,
+    Bubble,
+    Polygon,
+    Cone,
+    Cup,
+    Cylinder,
+    Tube,
+    Ring,
+    Light,
+    Illum,
+    Glow,
+    Spotlight,
+    Mirror,
+    Plastic,
+    Metal,
+    Trans,
+    Plastic2,
+    Metal2,
+    Trans2,
+    Dielectric,
+    Interface,
+    Glass,
+    Antimatter,
+    Mixfunc,
+}
+
+fn is_surface(kind: u32) -> bool {
+    (1..=9).contains(&kind)
+}
+
+fn is_material(kind: u32) -> bool {
+    (10..=24).contains(&kind)
+}
+
+use Kind::*;
+
+impl Kind {
+    fn from_word(word: &[u8]) -> Option<Kind> {
+        Some(match word {
+            b"source" => Source,
+            b"sphere" => Sphere,
+            b"bubble" => Bubble,
+            b"polygon" => Polygon,
+            b"cone" => Cone,
+            b"cup" => Cup,
+            b"cylinder" => Cylinder,
+            b"tube" => Tube,
+            b"ring" => Ring,
+            b"light" => Light,
+            b"illum" => Illum,
+            b"glow" => Glow,
+            b"spotlight" => Spotlight,
+            b"mirror" => Mirror,
+            b"plastic" => Plastic,
+            b"metal" => Metal,
+            b"trans" => Trans,
+            b"plastic2" => Plastic2,
+            b"metal2" => Metal2,
+            b"trans2" => Trans2,
+            b"dielectric" => Dielectric,
+            b"interface" => Interface,
+            b"glass" => Glass,
+            b"antimatter" => Antimatter,
+            b"mixfunc" => Mixfunc,
+            _ => return None,
+        })
+    }
+
+    fn takes_strings(self, n: usize) -> bool {
+        match self {
+            Illum | Mirror => n == 1,
+            Plastic2 | Metal2 | Trans2 | Mixfunc => n >= 4,
+            Antimatter => n >= 1,
+            _ => n == 0,
+        }
+    }
+
+    fn takes_reals(self, n: usize) -> bool {
+        match self {
+            Antimatter => n == 0,
+            Light | Illum | Mirror => n == 3,
+            Source | Sphere | Bubble | Glow => n == 4,
+            Plastic | Metal | Dielectric => n == 5,
+            Plastic2 | Metal2 => n == 6,
+            Cylinder | Tube | Spotlight | Trans => n == 7,
+            Cone | Cup | Ring | Trans2 | Interface => n == 8,
+            Glass => n == 3 || n == 4,
+            Polygon => n >= 9 && n.is_multiple_of(3),
+            Mixfunc => true,
+        }
+    }
+
+    /// Whether the last of the reals so far completes the breach of a house rule.
+    fn is_broken_by(self, reals: &[f64]) -> bool {
+        let all_zero = |part: &[f64]| part.iter().all(|&x| x == 0.0);
+        let last = reals[reals.len() - 1];
+        match (self, reals.len()) {
+            (Sphere | Bubble | Dielectric | Interface | Glass, 4) => last <= 0.0,
+            (Plastic2 | Metal2 | Trans2, 5 | 6) => last <= 0.0,
+            (Cylinder | Tube, 7) | (Interface, 8) => last <= 0.0,
+            (Cone | Cup | Ring, 7) => last < 0.0,
+            (Cone | Cup, 8) => last < 0.0 || all_zero(&reals[6..]),
+            (Ring, 8) => last <= reals[6],
+            (Ring, 6) => all_zero(&reals[3..]),
+            (Source, 3) => all_zero(reals),
+            _ => false,
+        }
+    }
+}
+
+// ---- counts and numerals
+
+/// 1 to 5 decimal digits.
+fn count(word: &[u8]) -> Option<usize> {
+    if word.len() > 5 || !word.iter().all(u8::is_ascii_digit) {
+        return None;
+    }
+    let value = word.iter().fold(0, |n, &b| n * 10 + usize::from(b - b'0'));
+    (!word.is_empty()).then_some(value)
+}
+
+const MALFORMED: u32 = 14;
+const TOO_LARGE: u32 = 15;
+const COEFFICIENT_LIMIT: u64 = 1_000_000_000_000_000;
+
+/// The powers of ten that a double holds exactly, up to the largest that a numeral may have.
+const POWERS: [f64; 23] = [
+    1e0, 1e1, 1e2, 1e3, 1e4, 1e5, 1e6, 1e7, 1e8, 1e9, 1e10, 1e11, 1e12, 1e13, 1e14, 1e15, 1e16, 1e17, 1e18, 1e19, 1e20,
+    1e21, 1e22,
+];
+
+/// A numeral's parts, as they are written.
+struct Numeral {
+    negative: bool,
+    coefficient: u64,
+    power: i32,
+}
+
+impl Numeral {
+    fn from_word(word: &[u8]) -> Option<Numeral> {
+        let (negative, word) = sign(word);
+        let (mut coefficient, mut digits, mut behind_point, mut point) = (0_u64, 0, 0, false);
+        let mut rest = word;
+        while let Some((&byte, tail)) = rest.split_first() {
+            match byte {
+                b'0'..=b'9' => {
+                    // A saturated coefficient stays too large
+                    coefficient = coefficient.saturating_mul(10).saturating_add(u64::from(byte - b'0'));
+                    digits += 1;
+                    behind_point += i32::from(point);
+                }
+                b'.' if !point => point = true,
+                _ => break,
+            }
+            rest = tail;
+        }
+        if digits == 0 {
+            return None;
+        }
+        let exponent = match rest.split_first() {
+            None => 0,
+            Some((b'e' | b'E', tail)) => exponent(tail)?,
+            Some(_) => return None,
+        };
+        Some(Numeral { negative, coefficient, power: exponent - behind_point })
+    }
+
+    /// The nearest double: coefficient and power of ten are exact, so there is one rounding.
+    fn value(&self) -> Option<f64> {
+        if self.coefficient >= COEFFICIENT_LIMIT {
+            return None;
+        }
+        let size = match self.power {
+            _ if self.coefficient == 0 => 0.0,
+            0..=22 => self.coefficient as f64 * POWERS[self.power as usize],
+            -22..=-1 => self.coefficient as f64 / POWERS[-self.power as usize],
+            _ => return None,
+        };
+        Some(if self.negative { -size } else { size })
+    }
+}
+
+fn sign(word: &[u8]) -> (bool, &[u8]) {
+    match word.split_first() {
+        Some((b'-', rest)) => (true, rest),
+        Some((b'+', rest)) => (false, rest),
+        _ => (false, word),
+    }
+}
+
+/// Optional sign, 1 to 3 digits.
+fn exponent(word: &[u8]) -> Option<i32> {
+    let (negative, digits) = sign(word);
+    if digits.len() > 3 {
+        return None;
+    }
+    let size = count(digits)? as i32;
+    Some(if negative { -size } else { size })
+}
+
+/// The value of a numeral, or the reason for refusing it.
+pub fn numeral(word: &[u8]) -> Result<f64, u32> {
+    Numeral::from_word(word).ok_or(MALFORMED)?.value().ok_or(TOO_LARGE)
+}
+
+// ---- the reader
+
+struct Reader<'t, 'm> {
+    text: &'t [u8],
+    at: usize,
+    records: &'m mut [u32],
+    record_room: usize,
+    primitives: usize,
+    reals: &'m mut [f64],
+    real_room: usize,
+    reals_used: usize,
+    /// The number of the latest primitive of each name.
+    latest: HashMap<&'t [u8], usize>,
+}
+
+impl<'t, 'm> Reader<'t, 'm> {
+    fn new(text: &'t [u8], records: &'m mut [u32], reals: &'m mut [f64]) -> Self {
+        Reader {
+            text,
+            at: 0,
+            record_room: MOST_RECORDS.min(records.len() / RECORD),
+            records,
+            primitives: 0,
+            real_room: MOST_REALS.min(reals.len()),
+            reals,
+            reals_used: 0,
+            latest: HashMap::new(),
+        }
+    }
+
+    fn scene(mut self) -> Result<Counts, Refused> {
+        if self.text.len() > MOST_BYTES {
+            return refuse(1, 0);
+        }
+        loop {
+            self.skip_blanks();
+            match self.text.get(self.at) {
+                None => return Ok(Counts { primitives: self.primitives, reals: self.reals_used }),
+                Some(b'#') => self.skip_line(),
+                Some(b'!') => return refuse(4, self.at),
+                Some(_) => self.statement()?,
+            }
+        }
+    }
+
+    fn skip_blanks(&mut self) {
+        let rest = &self.text[self.at..];
+        self.at += rest.iter().position(|&b| !is_blank(b)).unwrap_or(rest.len());
+    }
+
+    fn skip_line(&mut self) {
+        let rest = &self.text[self.at..];
+        self.at += rest.iter().position(|&b| b == b'\n').unwrap_or(rest.len());
+    }
+
+    /// The next word of a statement.
+    fn word(&mut self) -> Result<Word<'t>, Refused> {
+        let (place, len) = next_word(self.text, self.at);
+        if len == 0 {
+            return refuse(5, place);
+        }
+        self.at = place + len;
+        let bytes = &self.text[place..self.at];
+        if !bytes.iter().all(u8::is_ascii_graphic) {
+            return refuse(2, place);
+        }
+        if len > LONGEST_WORD {
+            return refuse(3, place);
+        }
+        Ok(Word { place, bytes })
+    }
+
+    fn statement(&mut self) -> Result<(), Refused> {
+        let modifier = self.modifier()?;
+        let kind = self.word()?;
+        let (name, mut record) = if kind.bytes == b"alias" {
+            let name = self.name()?;
+            (name, self.target()?)
+        } else {
+            let Some(kind) = Kind::from_word(kind.bytes) else {
+                return refuse(8, kind.place);
+            };
+            let name = self.name()?;
+            (name, self.arguments(kind)?)
+        };
+        record[MODIFIER] = modifier as u32;
+        record[NAME] = name.place as u32;
+        record[NAME_LENGTH] = name.bytes.len() as u32;
+        self.enter(name, &record);
+        Ok(())
+    }
+
+    fn modifier(&mut self) -> Result<usize, Refused> {
+        let word = self.word()?;
+        if self.primitives == self.record_room {
+            return refuse(6, word.place);
+        }
+        if word.bytes == b"void" {
+            return Ok(0);
+        }
+        self.lookup(word, 7)
+    }
+
+    fn lookup(&self, word: Word, reason: u32) -> Result<usize, Refused> {
+        match self.latest.get(word.bytes) {
+            Some(&number) => Ok(number),
+            None => refuse(reason, word.place),
+        }
+    }
+
+    fn name(&mut self) -> Result<Word<'t>, Refused> {
+        let name = self.word()?;
+        if name.bytes == b"void" {
+            return refuse(9, name.place);
+        }
+        Ok(name)
+    }
+
+    /// An alias's target: type, strings and reals are those of the primitive that it leads to.
+    fn target(&mut self) -> Result<[u32; RECORD], Refused> {
+        let word = self.word()?;
+        let number = self.lookup(word, 10)?;
+        let at = RECORD * (number - 1);
+        let found = &self.records[at..at + RECORD];
+        if is_surface(found[TYPE]) {
+            return refuse(11, word.place);
+        }
+        Ok([found[TYPE], 0, number as u32, 0, 0, found[5], found[6], found[7], found[8], 0])
+    }
+
+    /// A primitive's strings, integers and reals.
+    fn arguments(&mut self, kind: Kind) -> Result<[u32; RECORD], Refused> {
+        let (strings, _) = self.count(|n| kind.takes_strings(n))?;
+        let mut first_string = 0;
+        for k in 0..strings {
+            let string = self.word()?;
+            if k == 0 {
+                first_string = string.place;
+            }
+        }
+        self.count(|n| n == 0)?;
+        let (reals, place) = self.count(|n| kind.takes_reals(n))?;
+        if reals > self.real_room - self.reals_used {
+            return refuse(13, place);
+        }
+        let first_real = if reals == 0 { 0 } else { self.reals_used };
+        self.reals(kind, reals)?;
+        let [string, strings, real, reals] = [first_string, strings, first_real, reals].map(|n| n as u32);
+        Ok([kind as u32, 0, 0, 0, 0, string, strings, real, reals, 0])
+    }
+
+    /// A count that is allowed, and its place.
+    fn count(&mut self, allowed: impl Fn(usize) -> bool) -> Result<(usize, usize), Refused> {
+        let word = self.word()?;
+        match count(word.bytes) {
+            Some(n) if allowed(n) => Ok((n, word.place)),
+            _ => refuse(12, word.place),
+        }
+    }
+
+    fn reals(&mut self, kind: Kind, count: usize) -> Result<(), Refused> {
+        let first = self.reals_used;
+        for at in first..first + count {
+            let word = self.word()?;
+            match numeral(word.bytes) {
+                Ok(value) => self.reals[at] = value,
+                Err(reason) => return refuse(reason, word.place),
+            }
+            if kind.is_broken_by(&self.reals[first..=at]) {
+                return refuse(16, word.place);
+            }
+        }
+        self.reals_used += count;
+        Ok(())
+    }
+
+    fn enter(&mut self, name: Word<'t>, record: &[u32; RECORD]) {
+        let at = RECORD * self.primitives;
+        self.records[at..at + RECORD].copy_from_slice(record);
+        self.primitives += 1;
+        if let Some(earlier) = self.latest.insert(name.bytes, self.primitives) {
+            self.records[RECORD * (earlier - 1) + NEXT] = self.primitives as u32;
+        }
+    }
+}
+
+// ---- questions to a table, which may hold anything
+
+const NO_SUCH_PRIMITIVE: u32 = 17;
+const BAD_TABLE: u32 = 18;
+const USED_UP: u32 = 19;
+
+/// The records that a count states, from number 1 on, if the number is one of them.
+fn stated(records: &[u32], count: usize, number: usize) -> Result<&[u32], u32> {
+    if count > MOST_RECORDS || count > records.len() / RECORD {
+        Err(BAD_TABLE)
+    } else if number == 0 || number > count {
+        Err(NO_SUCH_PRIMITIVE)
+    } else {
+        Ok(&records[..RECORD * count])
+    }
+}
+
+/// Place and length of a primitive's name, or a refusal's number.
+pub fn name(text: &[u8], records: &[u32], count: usize, number: usize) -> Result<(usize, usize), u32> {
+    let record = &stated(records, count, number)?[RECORD * (number - 1)..];
+    let (place, len) = (record[NAME] as usize, record[NAME_LENGTH] as usize);
+    match text.get(place..).and_then(|rest| rest.get(..len)) {
+        Some(name) if !name.is_empty() => Ok((place, len)),
+        _ => Err(BAD_TABLE),
+    }
+}
+
+/// The first material that a primitive's modifiers lead to, and the links to it; or a refusal's number and its count.
+pub fn finish(records: &[u32], count: usize, number: usize, allowance: usize) -> Result<(usize, usize), (u32, usize)> {
+    let records = stated(records, count, number).map_err(|reason| (reason, 0))?;
+    let mut at = number;
+    for links in 0.. {
+        let link = records[RECORD * (at - 1) + MODIFIER] as usize;
+        if link == 0 {
+            return Ok((0, links));
+        }
+        if link >= at {
+            return Err((BAD_TABLE, 0));
+        }
+        if links == allowance {
+            return Err((USED_UP, links));
+        }
+        match records[RECORD * (link - 1) + TYPE] {
+            kind if is_material(kind) => return Ok((link, links + 1)),
+            1..=25 => at = link,
+            _ => return Err((BAD_TABLE, 0)),
+        }
+    }
+    unreachable!("links fall, so the walk ends")
+}

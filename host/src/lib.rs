@@ -1,0 +1,50 @@
+//! Kribbelsteen for Rust: reads Radiance scene texts into tables that the caller lends, walks from a panel to its finish, and works
+//! out ray hits and Fresnel values. The work is done by a library that is proved to meet its contracts; this package only gives its
+//! numbers their Rust forms.
+//!
+//! ```
+//! use kribbelsteen::{Scene, RECORD};
+//!
+//! let text = b"void plastic wall 0 0 5 .5 .5 .5 0 0\nwall sphere lamp 0 0 4 0 0 0 1\n";
+//! let (mut records, mut reals) = ([0; RECORD * 8], [0.0; 32]);
+//! let scene = Scene::read(text, &mut records, &mut reals)?;
+//! assert_eq!(scene.counts().primitives, 2);
+//! let finish = scene.finish(2)?;
+//! assert_eq!(scene.name(finish.material.unwrap())?, b"wall");
+//! # Ok::<(), Box<dyn std::error::Error>>(())
+//! ```
+//!
+//! A scene that is not well-formed is refused with a reason and a place:
+//!
+//! ```
+//! use kribbelsteen::{Reason, Scene};
+//!
+//! let refusal = Scene::read(b"a sphere s 0 0 4 0 0 0 1", &mut [0; 10], &mut [0.0; 4]).unwrap_err();
+//! assert_eq!(refusal.reason, Reason::NoModifier);
+//! assert_eq!(refusal.to_string(), "modifier not defined above (reason 7), at byte 0");
+//! ```
+#![deny(missing_docs)]
+
+mod questions;
+pub mod raw;
+mod rays;
+mod reading;
+mod types;
+mod words;
+
+pub use questions::{finish, name, Finish, Question};
+pub use rays::{fresnel, ring, root, sphere, Ray, Reflection, Ring, Sphere, Step};
+pub use reading::{read, Counts, Primitive, Reason, Refusal, Scene};
+pub use types::Type;
+pub use words::{next_word, words, Word, Words};
+
+/// The longest text that is read, in bytes.
+pub const MOST_BYTES: usize = 65_536;
+/// The longest word that is read, in bytes.
+pub const LONGEST_WORD: usize = 64;
+/// The most primitives of a scene.
+pub const MOST_PRIMITIVES: usize = 1_024;
+/// The most reals of a scene.
+pub const MOST_REALS: usize = 4_096;
+/// How many numbers of a lent table a primitive takes.
+pub const RECORD: usize = 10;

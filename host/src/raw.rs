@@ -1,0 +1,121 @@
+//! The library's calls as they are: slices in, document numbers out. The rest of the package is written over these; they are there
+//! for callers that keep the numbers, and for comparisons.
+//!
+//! Each answer is filled beforehand with what the library never gives, so that an entry left out would show.
+
+extern "C" {
+    fn kribbelsteen_read(
+        text: *const u8,
+        text_len: usize,
+        records: *mut u32,
+        records_len: usize,
+        reals: *mut f64,
+        reals_len: usize,
+        answer: *mut usize,
+    ) -> u32;
+    fn kribbelsteen_name(
+        text: *const u8,
+        text_len: usize,
+        records: *const u32,
+        records_len: usize,
+        count: usize,
+        number: usize,
+        answer: *mut usize,
+    ) -> u32;
+    fn kribbelsteen_finish(
+        records: *const u32,
+        records_len: usize,
+        count: usize,
+        number: usize,
+        allowance: usize,
+        answer: *mut usize,
+    ) -> u32;
+    fn kribbelsteen_next_word(text: *const u8, text_len: usize, at: usize, answer: *mut usize);
+    fn kribbelsteen_sphere(ray: *const f64, sphere: *const f64, answer: *mut f64) -> u32;
+    fn kribbelsteen_ring(ray: *const f64, ring: *const f64, answer: *mut f64) -> u32;
+    fn kribbelsteen_fresnel(cos1: f64, n1: f64, n2: f64, answer: *mut f64) -> u32;
+    fn kribbelsteen_root(x: f64) -> f64;
+}
+
+/// Reads a scene: the reason, 0 if accepted; then place, primitives and reals.
+pub fn read(text: &[u8], records: &mut [u32], reals: &mut [f64]) -> (u32, [usize; 3]) {
+    let mut answer = [usize::MAX; 3];
+    // SAFETY: each pointer and length is that of a slice, the answer has three entries, and the borrows keep what is written apart.
+    let reason = unsafe {
+        kribbelsteen_read(
+            text.as_ptr(),
+            text.len(),
+            records.as_mut_ptr(),
+            records.len(),
+            reals.as_mut_ptr(),
+            reals.len(),
+            answer.as_mut_ptr(),
+        )
+    };
+    (reason, answer)
+}
+
+/// The name of a primitive: a refusal's number, 0 for none; then place and length.
+pub fn name(text: &[u8], records: &[u32], count: usize, number: usize) -> (u32, [usize; 2]) {
+    let mut answer = [usize::MAX; 2];
+    // SAFETY: each pointer and length is that of a slice, and only the answer, which has two entries, is written.
+    let reason = unsafe {
+        kribbelsteen_name(
+            text.as_ptr(),
+            text.len(),
+            records.as_ptr(),
+            records.len(),
+            count,
+            number,
+            answer.as_mut_ptr(),
+        )
+    };
+    (reason, answer)
+}
+
+/// The finish of a primitive: a refusal's number, 0 for none; then material and links.
+pub fn finish(records: &[u32], count: usize, number: usize, allowance: usize) -> (u32, [usize; 2]) {
+    let mut answer = [usize::MAX; 2];
+    // SAFETY: pointer and length are those of a slice, and only the answer, which has two entries, is written.
+    let reason =
+        unsafe { kribbelsteen_finish(records.as_ptr(), records.len(), count, number, allowance, answer.as_mut_ptr()) };
+    (reason, answer)
+}
+
+/// Place and length of the word at or after a place; the text's length and 0 if there is none.
+pub fn next_word(text: &[u8], at: usize) -> [usize; 2] {
+    let mut answer = [usize::MAX; 2];
+    // SAFETY: pointer and length are those of a slice, and only the answer, which has two entries, is written.
+    unsafe { kribbelsteen_next_word(text.as_ptr(), text.len(), at, answer.as_mut_ptr()) };
+    answer
+}
+
+/// A ray (origin, direction) and a sphere (centre, radius): 0 for a hit, 1 for a miss, or 20 or 21; then the distance, 0 if none.
+pub fn sphere(ray: &[f64; 6], sphere: &[f64; 4]) -> (u32, f64) {
+    let mut answer = [f64::NAN];
+    // SAFETY: the arrays have the lengths that the call reads and writes, and only the answer is written.
+    let outcome = unsafe { kribbelsteen_sphere(ray.as_ptr(), sphere.as_ptr(), answer.as_mut_ptr()) };
+    (outcome, answer[0])
+}
+
+/// A ray (origin, direction) and a ring (centre, normal, inner, outer): as for a sphere.
+pub fn ring(ray: &[f64; 6], ring: &[f64; 8]) -> (u32, f64) {
+    let mut answer = [f64::NAN];
+    // SAFETY: the arrays have the lengths that the call reads and writes, and only the answer is written.
+    let outcome = unsafe { kribbelsteen_ring(ray.as_ptr(), ring.as_ptr(), answer.as_mut_ptr()) };
+    (outcome, answer[0])
+}
+
+/// Fresnel: 0 for coefficients, 1 for total reflection, or 20 or 21; then FTE, FTM and F, all 0 if there are none.
+pub fn fresnel(cos1: f64, n1: f64, n2: f64) -> (u32, [f64; 3]) {
+    let mut answer = [f64::NAN; 3];
+    // SAFETY: the answer has the three entries that the call writes.
+    let outcome = unsafe { kribbelsteen_fresnel(cos1, n1, n2, answer.as_mut_ptr()) };
+    (outcome, answer)
+}
+
+/// The root, rounded down; NaN where there is none.
+pub fn root(x: f64) -> f64 {
+    // SAFETY: the call takes and gives plain numbers.
+    unsafe { kribbelsteen_root(x) }
+}

@@ -1,0 +1,243 @@
+//! Scene texts, read into lent tables.
+
+use crate::{questions, raw, Finish, Question, Type, Word, Words, RECORD};
+use std::error::Error;
+use std::fmt;
+
+/// Why a scene is refused.
+#[derive(Clone, Copy, Debug, PartialEq, Eq, Hash)]
+#[repr(u32)]
+pub enum Reason {
+    /// The text has over 65,536 bytes.
+    TextTooLong = 1,
+    /// A word has a byte outside 33 to 126.
+    BadByte = 2,
+    /// A word has over 64 bytes.
+    WordTooLong = 3,
+    /// A command, which is never run.
+    Command = 4,
+    /// The text ends inside a statement.
+    TextEnds = 5,
+    /// The lent table has no room for a record.
+    NoRecordRoom = 6,
+    /// The modifier is not defined above.
+    NoModifier = 7,
+    /// The type is unknown.
+    UnknownType = 8,
+    /// The name is `void`.
+    NameIsVoid = 9,
+    /// The alias target is not defined above.
+    NoTarget = 10,
+    /// The alias target is a surface.
+    SurfaceTarget = 11,
+    /// A count is badly formed or not allowed.
+    BadCount = 12,
+    /// The lent table has no room for the reals.
+    NoRealRoom = 13,
+    /// A real breaks the numeral rule.
+    BadNumeral = 14,
+    /// A numeral's coefficient or power is too large.
+    NumeralRange = 15,
+    /// A real breaks a house rule.
+    HouseRule = 16,
+}
+
+impl Reason {
+    /// The reason's number.
+    pub fn number(self) -> u32 {
+        self as u32
+    }
+
+    /// The reason of a number; none outside 1 to 16.
+    pub fn from_number(number: u32) -> Option<Reason> {
+        Some(match number {
+            1 => Reason::TextTooLong,
+            2 => Reason::BadByte,
+            3 => Reason::WordTooLong,
+            4 => Reason::Command,
+            5 => Reason::TextEnds,
+            6 => Reason::NoRecordRoom,
+            7 => Reason::NoModifier,
+            8 => Reason::UnknownType,
+            9 => Reason::NameIsVoid,
+            10 => Reason::NoTarget,
+            11 => Reason::SurfaceTarget,
+            12 => Reason::BadCount,
+            13 => Reason::NoRealRoom,
+            14 => Reason::BadNumeral,
+            15 => Reason::NumeralRange,
+            16 => Reason::HouseRule,
+            _ => return None,
+        })
+    }
+}
+
+impl fmt::Display for Reason {
+    fn fmt(&self, f: &mut fmt::Formatter<'_>) -> fmt::Result {
+        f.write_str(match self {
+            Reason::TextTooLong => "text over 65,536 bytes",
+            Reason::BadByte => "bad byte in a word",
+            Reason::WordTooLong => "word over 64 bytes",
+            Reason::Command => "command",
+            Reason::TextEnds => "text ends inside a statement",
+            Reason::NoRecordRoom => "no room for a record",
+            Reason::NoModifier => "modifier not defined above",
+            Reason::UnknownType => "unknown type",
+            Reason::NameIsVoid => "name is `void`",
+            Reason::NoTarget => "alias target not defined above",
+            Reason::SurfaceTarget => "alias target is a surface",
+            Reason::BadCount => "count badly formed or not allowed",
+            Reason::NoRealRoom => "no room for the reals",
+            Reason::BadNumeral => "not a numeral",
+            Reason::NumeralRange => "coefficient or power too large",
+            Reason::HouseRule => "real breaks a house rule",
+        })
+    }
+}
+
+/// Why a scene is refused, and where. Both tables are all zero then.
+#[derive(Clone, Copy, Debug, PartialEq, Eq, Hash)]
+pub struct Refusal {
+    /// The reason; of several at one place the one with the lowest number.
+    pub reason: Reason,
+    /// The earliest place with a reason, in bytes from the text's start.
+    pub place: usize,
+}
+
+impl fmt::Display for Refusal {
+    fn fmt(&self, f: &mut fmt::Formatter<'_>) -> fmt::Result {
+        write!(f, "{} (reason {}), at byte {}", self.reason, self.reason.number(), self.place)
+    }
+}
+
+impl Error for Refusal {}
+
+/// How much an accepted scene holds.
+#[derive(Clone, Copy, Debug, PartialEq, Eq, Hash)]
+pub struct Counts {
+    /// Primitives, aliases included.
+    pub primitives: usize,
+    /// Reals of all primitives.
+    pub reals: usize,
+}
+
+/// Reads a scene into both tables. There is room for a record in each ten numbers, at most 1,024 of them, and for at most 4,096
+/// reals. Entries beyond those used become 0, and all of them if the scene is refused.
+pub fn read(text: &[u8], records: &mut [u32], reals: &mut [f64]) -> Result<Counts, Refusal> {
+    let (number, [place, primitives, reals]) = raw::read(text, records, reals);
+    if number == 0 {
+        return Ok(Counts { primitives, reals });
+    }
+    let reason = Reason::from_number(number).expect("the library refuses scenes by 1 to 16");
+    Err(Refusal { reason, place })
+}
+
+/// An accepted scene: its text and both tables.
+#[derive(Clone, Copy, Debug)]
+pub struct Scene<'s> {
+    text: &'s [u8],
+    records: &'s [u32],
+    reals: &'s [f64],
+}
+
+impl<'s> Scene<'s> {
+    /// Reads a scene, as [`read`] does, and keeps its parts together.
+    pub fn read(text: &'s [u8], records: &'s mut [u32], reals: &'s mut [f64]) -> Result<Scene<'s>, Refusal> {
+        let counts = read(text, records, reals)?;
+        Ok(Scene { text, records: &records[..RECORD * counts.primitives], reals: &reals[..counts.reals] })
+    }
+
+    /// How much the scene holds.
+    pub fn counts(&self) -> Counts {
+        Counts { primitives: self.records.len() / RECORD, reals: self.reals.len() }
+    }
+
+    /// The name of the primitive of a number, from 1.
+    pub fn name(&self, number: usize) -> Result<&'s [u8], Question> {
+        questions::name(self.text, self.records, self.counts().primitives, number)
+    }
+
+    /// The finish of the primitive of a number, however many links away.
+    pub fn finish(&self, number: usize) -> Result<Finish, Question> {
+        self.finish_within(number, number)
+    }
+
+    /// The finish of the primitive of a number, with no more links followed than allowed.
+    pub fn finish_within(&self, number: usize, allowance: usize) -> Result<Finish, Question> {
+        questions::finish(self.records, self.counts().primitives, number, allowance)
+    }
+
+    /// The primitive of a number, from 1.
+    pub fn primitive(&self, number: usize) -> Option<Primitive<'s>> {
+        let record = self.records.chunks_exact(RECORD).nth(number.checked_sub(1)?)?;
+        Some(Primitive { text: self.text, reals: self.reals, record, number })
+    }
+
+    /// All primitives, in the text's order.
+    pub fn primitives(&self) -> impl Iterator<Item = Primitive<'s>> {
+        let Scene { text, records, reals } = *self;
+        let numbered = records.chunks_exact(RECORD).zip(1..);
+        numbered.map(move |(record, number)| Primitive { text, reals, record, number })
+    }
+}
+
+/// A primitive or an alias of an accepted scene.
+#[derive(Clone, Copy, Debug)]
+pub struct Primitive<'s> {
+    text: &'s [u8],
+    reals: &'s [f64],
+    record: &'s [u32],
+    number: usize,
+}
+
+impl<'s> Primitive<'s> {
+    fn field(&self, at: usize) -> usize {
+        self.record[at] as usize
+    }
+
+    fn link(&self, at: usize) -> Option<usize> {
+        Some(self.field(at)).filter(|&number| number != 0)
+    }
+
+    /// Its number, from 1.
+    pub fn number(&self) -> usize {
+        self.number
+    }
+
+    /// Its type; an alias has its target's.
+    pub fn kind(&self) -> Type {
+        Type::from_number(self.record[0]).expect("accepted scenes have types from 1 to 25")
+    }
+
+    /// The primitive that its modifier leads to; none for `void`.
+    pub fn modifier(&self) -> Option<usize> {
+        self.link(1)
+    }
+
+    /// The primitive that an alias leads to; none if it is no alias.
+    pub fn target(&self) -> Option<usize> {
+        self.link(2)
+    }
+
+    /// Its name.
+    pub fn name(&self) -> Word<'s> {
+        let (place, len) = (self.field(3), self.field(4));
+        Word { place, bytes: &self.text[place..place + len] }
+    }
+
+    /// Its string arguments; an alias has its target's.
+    pub fn strings(&self) -> impl Iterator<Item = Word<'s>> {
+        Words::starting_at(self.text, self.field(5)).take(self.field(6))
+    }
+
+    /// Its reals; an alias has its target's.
+    pub fn reals(&self) -> &'s [f64] {
+        let (first, count) = (self.field(7), self.field(8));
+        &self.reals[first..first + count]
+    }
+
+    /// The next primitive of the same name, which hides this one from what stands below.
+    pub fn next_of_name(&self) -> Option<usize> {
+        self.link(9)
+    }
+}

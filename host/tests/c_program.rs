@@ -1,0 +1,71 @@
+//! Compiles `program.c` with the header and the archive, runs it, and compares what it prints.
+
+use std::path::Path;
+use std::process::{Command, Output};
+
+const EXPECTED: &str = "\
+primitives=4 reals=14
+no=1 mod=0 type=15 name=wall finish=0 links=0
+no=2 mod=0 type=15 name=wall finish=0 links=0
+no=3 mod=2 type=2 name=lamp finish=2 links=1
+no=4 mod=0 type=15 name=trim finish=0 links=0
+name 9: 17
+name, 9 stated: 18
+finish 3, no links: 19 0 0
+refused=7 place=0
+refused=16 place=26
+primitives=0 reals=0
+name 9: 17
+name, 9 stated: 18
+finish 3, no links: 17 0 0
+word 1 4
+word 6 5
+word 12 0
+sphere 0 4
+sphere 1 0
+sphere 21 0
+ring 0 6
+ring 1 0
+fresnel 0 0.25 0.25 0.25
+fresnel 1 0 0 0
+fresnel 20 0 0 0
+root 1.4142135623730949
+root of -1 is none
+";
+
+fn package() -> &'static Path {
+    Path::new(env!("CARGO_MANIFEST_DIR"))
+}
+
+/// Compiles a source file with warnings as errors, for a language and its standard; none if there is no compiler.
+fn compile(compiler: &str, options: &[&str], program: &Path) -> Option<Output> {
+    let mut command = Command::new(compiler);
+    command.args(options).args(["-Wall", "-Wextra", "-Werror", "-O2", "-I"]).arg(package());
+    command.arg(package().join("tests/program.c"));
+    // The archive is no C++ source, whatever the options say of the program
+    command.args(["-x", "none"]).arg(package().join("../target/staticlib/libkribbelsteen.a"));
+    command.arg("-o").arg(program);
+    command.output().ok()
+}
+
+fn prints_what_is_expected(compiler: &str, options: &[&str], name: &str) {
+    let program = Path::new(env!("CARGO_TARGET_TMPDIR")).join(name);
+    let Some(compiled) = compile(compiler, options, &program) else {
+        eprintln!("skipped: there is no {compiler}");
+        return;
+    };
+    assert!(compiled.status.success(), "{compiler}: {}", String::from_utf8_lossy(&compiled.stderr));
+    let run = Command::new(&program).output().expect("the program runs");
+    assert!(run.status.success(), "the program ends with {}", run.status);
+    assert_eq!(String::from_utf8_lossy(&run.stdout), EXPECTED);
+}
+
+#[test]
+fn a_c_program_links_and_runs() {
+    prints_what_is_expected("cc", &["-std=c99", "-pedantic"], "program_c");
+}
+
+#[test]
+fn the_header_is_cpp_too() {
+    prints_what_is_expected("c++", &["-std=c++11", "-x", "c++"], "program_cpp");
+}

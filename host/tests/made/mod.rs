@@ -1,0 +1,5 @@
+//! Made inputs, from a seed.
+
+pub mod floats;
+pub mod numerals;
+pub mod scenes;

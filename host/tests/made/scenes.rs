@@ -1,0 +1,384 @@
+//! Scene texts, short and long, well-formed and damaged, and the lengths of the tables that are lent for them.
+
+use super::numerals;
+use crate::reference::random::Random;
+
+/// A text and how many entries are lent.
+pub struct Case {
+    pub text: Vec<u8>,
+    pub records: usize,
+    pub reals: usize,
+}
+
+type Words = Vec<Vec<u8>>;
+
+/// Type, how many strings and how many reals it may have.
+const TYPES: [(&str, &[usize], &[usize]); 25] = [
+    ("source", &[0], &[4]),
+    ("sphere", &[0], &[4]),
+    ("bubble", &[0], &[4]),
+    ("polygon", &[0], &[9, 12, 15]),
+    ("cone", &[0], &[8]),
+    ("cup", &[0], &[8]),
+    ("cylinder", &[0], &[7]),
+    ("tube", &[0], &[7]),
+    ("ring", &[0], &[8]),
+    ("light", &[0], &[3]),
+    ("illum", &[1], &[3]),
+    ("glow", &[0], &[4]),
+    ("spotlight", &[0], &[7]),
+    ("mirror", &[1], &[3]),
+    ("plastic", &[0], &[5]),
+    ("metal", &[0], &[5]),
+    ("trans", &[0], &[7]),
+    ("plastic2", &[4, 5, 7], &[6]),
+    ("metal2", &[4, 6], &[6]),
+    ("trans2", &[4], &[8]),
+    ("dielectric", &[0], &[5]),
+    ("interface", &[0], &[8]),
+    ("glass", &[0], &[3, 4]),
+    ("antimatter", &[1, 2, 5], &[0]),
+    ("mixfunc", &[4, 5], &[0, 1, 3, 11]),
+];
+const FIRST_MATERIAL: usize = 9;
+/// Types whose reals are under a house rule.
+const RULED: [&str; 13] = [
+    "source",
+    "sphere",
+    "bubble",
+    "cone",
+    "cup",
+    "cylinder",
+    "tube",
+    "ring",
+    "plastic2",
+    "metal2",
+    "trans2",
+    "dielectric",
+    "interface",
+];
+const NAMES: [&str; 15] =
+    ["wall", "desk", "deskfront", "lamp", "trim", "a", "b", "x#y", "q!", "#h", "void2", "alias", "sphere", "voi", "0"];
+const BLANKS: [&str; 12] = [" ", " ", " ", " ", " ", " ", "\n", "\t", "  ", "\r\n", "\x0b", "\x0c"];
+const SPOILERS: [&str; 18] = [
+    "void",
+    "alias",
+    "sphere",
+    "light",
+    "nowhere",
+    "0",
+    "1",
+    "3",
+    "4",
+    "5",
+    "00000",
+    "000000",
+    "65536",
+    "99999",
+    "-1",
+    "!",
+    "#",
+    "caf\u{e9}",
+];
+
+fn name(random: &mut Random) -> Vec<u8> {
+    match random.below(20) {
+        0 => vec![b'n'; 64],
+        1 => [vec![b'n'; 63], vec![b'm']].concat(),
+        2 => vec![random.within(33, 126) as u8],
+        _ => random.pick(&NAMES).as_bytes().to_vec(),
+    }
+}
+
+fn real(random: &mut Random, kind: &str, at: usize) -> String {
+    if random.below(300) == 0 {
+        numerals::any(random)
+    } else if kind == "ring" && at == 7 {
+        "1e3".to_owned()
+    } else if RULED.contains(&kind) || kind == "glass" && at == 3 {
+        numerals::positive(random)
+    } else {
+        numerals::good(random)
+    }
+}
+
+fn count_word(random: &mut Random, n: usize) -> Vec<u8> {
+    let width = if random.percent(10) { random.within(1, 5) } else { 1 };
+    format!("{n:0width$}").into_bytes()
+}
+
+/// What stands above a statement: names that were given, and which of them by a surface.
+#[derive(Default)]
+struct Given {
+    all: Words,
+    not_surfaces: Words,
+}
+
+/// A statement that is likely to be accepted.
+fn statement(random: &mut Random, given: &mut Given) -> Words {
+    let modifier = match given.all.is_empty() || random.percent(30) {
+        true => b"void".to_vec(),
+        false => random.pick(&given.all).clone(),
+    };
+    let name = name(random);
+    if !given.not_surfaces.is_empty() && random.percent(20) {
+        let target = random.pick(&given.not_surfaces).clone();
+        given.give(&name, false);
+        return vec![modifier, b"alias".to_vec(), name, target];
+    }
+    let number = random.below(TYPES.len());
+    let (kind, strings, reals) = TYPES[number];
+    given.give(&name, number < FIRST_MATERIAL);
+    let mut words = vec![modifier, kind.as_bytes().to_vec(), name];
+    let strings = *random.pick(strings);
+    words.push(count_word(random, strings));
+    words.extend((0..strings).map(|_| random.pick(&NAMES).as_bytes().to_vec()));
+    words.push(count_word(random, 0));
+    let reals = *random.pick(reals);
+    words.push(count_word(random, reals));
+    words.extend((0..reals).map(|at| real(random, kind, at).into_bytes()));
+    words
+}
+
+impl Given {
+    fn give(&mut self, name: &[u8], surface: bool) {
+        // A modifier that begins with # would be a comment: it is used now and then, by a spoiled word
+        if !name.starts_with(b"#") && !name.starts_with(b"!") {
+            self.all.push(name.to_vec());
+        }
+        self.not_surfaces.retain(|other| other != name);
+        if !surface {
+            self.not_surfaces.push(name.to_vec());
+        }
+    }
+}
+
+/// One word changed, put in or taken out.
+fn spoil(random: &mut Random, statements: &mut [Words]) {
+    if statements.is_empty() {
+        return;
+    }
+    let which = random.below(statements.len());
+    let other = random.below(statements.len());
+    let other_name = statements[other][2].clone();
+    let words = &mut statements[which];
+    let at = random.below(words.len());
+    match random.below(20) {
+        0 => drop(words.remove(at)),
+        1 => words.insert(at, words[at].clone()),
+        2..=3 => words[at] = random.pick(&SPOILERS).as_bytes().to_vec(),
+        4 => words[at] = vec![b'y'; *random.pick(&[64, 65, 66, 200])],
+        5 => {
+            let byte = random.below(words[at].len());
+            words[at][byte] = *random.pick(&[0, 8, 14, 31, 127, 128, 255]);
+        }
+        6 => words[2] = b"void".to_vec(),
+        7 => *words = [b"void".as_slice(), b"alias", b"trim", b"nowhere"].map(<[u8]>::to_vec).to_vec(),
+        8 => words[0] = [b"!", words[0].as_slice()].concat(),
+        9 => words[0] = [b"#", words[0].as_slice()].concat(),
+        10 => *words.last_mut().expect("a statement has words") = numerals::malformed(random).into_bytes(),
+        11 => words[at] = numerals::large(random).into_bytes(),
+        12 => words[at] = b"-0".to_vec(),
+        13 => nudge(random, words),
+        14 => statements.swap(which, other),
+        15..=16 => *words = [b"void".as_slice(), b"alias", b"trim", other_name.as_slice()].map(<[u8]>::to_vec).to_vec(),
+        _ => break_a_rule(random, words),
+    }
+}
+
+/// Some or all reals from one on become 0, or one of them negative.
+fn break_a_rule(random: &mut Random, words: &mut [Vec<u8>]) {
+    let first = random.below(words.len().saturating_sub(6) + 1) + 6;
+    let count = *random.pick(&[1, 1, 2, 3, 8]);
+    let value = *random.pick(&["0", "-0", "0e9", "-1", "1e3"]);
+    words.iter_mut().skip(first).take(count).for_each(|word| *word = value.as_bytes().to_vec());
+}
+
+/// A number among the words becomes one more or one less.
+fn nudge(random: &mut Random, words: &mut Words) {
+    let number = |word: &Vec<u8>| std::str::from_utf8(word).ok()?.parse::<u32>().ok();
+    let places: Vec<usize> = (0..words.len()).filter(|&k| number(&words[k]).is_some()).collect();
+    if places.is_empty() {
+        return;
+    }
+    let at = *random.pick(&places);
+    let value = number(&words[at]).expect("chosen as a number");
+    let changed = if random.percent(50) { value.saturating_add(1) } else { value.saturating_sub(1) };
+    words[at] = changed.to_string().into_bytes();
+}
+
+const COMMENTS: [&[u8]; 6] =
+    [b"# note \xff!\n", b"\n", b"  \t\n", b"#\n", b" # trailing\r\n", b"#void sphere s 0 0 4\x00\n"];
+const ENDS: [&[u8]; 8] = [b"!run it\n", b"# the end", b"!", b"void", b"void sphere", b"#", b" ", b"\x00"];
+
+fn joined(random: &mut Random, statements: &[Words]) -> Vec<u8> {
+    let mut out = Vec::new();
+    for words in statements {
+        if random.percent(15) {
+            out.extend_from_slice(COMMENTS[random.below(COMMENTS.len())]);
+        }
+        for word in words {
+            out.extend_from_slice(word);
+            out.extend_from_slice(random.pick(&BLANKS).as_bytes());
+        }
+        if random.percent(60) {
+            out.push(b'\n');
+        }
+    }
+    if random.percent(5) {
+        out.extend_from_slice(ENDS[random.below(ENDS.len())]);
+    }
+    out
+}
+
+/// Bytes changed, put in, taken out or doubled.
+fn damage(random: &mut Random, text: &mut Vec<u8>) {
+    if text.is_empty() {
+        return;
+    }
+    let at = random.below(text.len());
+    let end = (at + random.below(30)).min(text.len());
+    match random.below(6) {
+        0 => text.truncate(at),
+        1 => text[at] ^= 1 << random.below(8),
+        2 => text[at] = *random.pick(&[0, 9, 10, 32, 33, 35, 48, 65, 126, 127, 200, 255]),
+        3 => text.insert(at, *random.pick(&[0, 10, 32, 35, 48, 46, 101, 120, 255])),
+        4 => drop(text.drain(at..end)),
+        _ => {
+            let part = text[at..end].to_vec();
+            text.splice(at..at, part);
+        }
+    }
+}
+
+fn lent(random: &mut Random, most: usize, needed: usize) -> usize {
+    match random.below(60) {
+        0..=1 => (needed + random.below(12)).saturating_sub(12),
+        2 => random.below(needed + 1),
+        3 => random.below(11),
+        4 => 0,
+        5..=20 => needed + random.below(12),
+        21..=24 => most + random.below(40),
+        _ => most,
+    }
+}
+
+const MOST_RECORD_NUMBERS: usize = 10 * 1024;
+const MOST_REALS: usize = 4096;
+
+/// A scene of up to some hundred statements.
+fn ordinary(random: &mut Random) -> Case {
+    let size = match random.below(100) {
+        0..=79 => random.below(13),
+        80..=96 => random.within(13, 50),
+        _ => random.within(51, 250),
+    };
+    let mut given = Given::default();
+    let mut statements: Vec<Words> = (0..size).map(|_| statement(random, &mut given)).collect();
+    if random.percent(40) {
+        for _ in 0..random.within(1, 2) {
+            spoil(random, &mut statements);
+        }
+    }
+    let mut text = joined(random, &statements);
+    if random.percent(20) {
+        damage(random, &mut text);
+    }
+    let words: usize = statements.iter().map(Vec::len).sum();
+    Case {
+        text,
+        records: lent(random, MOST_RECORD_NUMBERS, 10 * size),
+        reals: lent(random, MOST_REALS, words.saturating_sub(6 * size)),
+    }
+}
+
+/// Bytes with no plan behind them, or few of a scene's words.
+fn noise(random: &mut Random) -> Case {
+    let mut text = Vec::new();
+    let plain = random.percent(30);
+    for _ in 0..random.below(60) {
+        if plain {
+            text.push(random.bits() as u8);
+        } else {
+            text.extend_from_slice(random.pick(&SPOILERS).as_bytes());
+            text.extend_from_slice(random.pick(&BLANKS).as_bytes());
+        }
+    }
+    Case { text, records: lent(random, MOST_RECORD_NUMBERS, 20), reals: lent(random, MOST_REALS, 4) }
+}
+
+/// A scene at or around one of the limits.
+fn at_a_limit(random: &mut Random) -> Case {
+    let primitives = *random.pick(&[2, 10, 1023, 1024, 1025, 1030]);
+    let reals = *random.pick(&[0, 1, 4095, 4096, 4097, 5000]);
+    let name = vec![b'n'; *random.pick(&[1, 63, 64, 65])];
+    let mut text = [b"void mixfunc ", name.as_slice(), format!(" 4 a b c d 0 {reals}").as_bytes()].concat();
+    (0..reals).for_each(|_| text.extend_from_slice(b" 1"));
+    text.extend_from_slice(&[b"\nvoid alias a ", name.as_slice(), b"\n"].concat());
+    let line = *random.pick(&[&b"a alias a a\n"[..], b"a alias b a\n", b"void antimatter b 1 x 0 0\na alias c b\n"]);
+    let lines = line.iter().filter(|&&b| b == b'\n').count();
+    (0..(primitives - 2) / lines).for_each(|_| text.extend_from_slice(line));
+    if random.percent(60) {
+        pad(random, &mut text);
+    }
+    if random.percent(10) {
+        damage(random, &mut text);
+    }
+    let records = *random.pick(&[10_240, 10_240, 10_240, 10_239, 10_241, 10_249, 10_250, 10_260, 12_000, 10_230]);
+    let reals = *random.pick(&[4096, 4096, 4096, 4095, 4097, 6000]);
+    Case { text, records, reals }
+}
+
+/// Fills a text up to about the most bytes, before or behind its statements.
+fn pad(random: &mut Random, text: &mut Vec<u8>) {
+    let size: usize = *random.pick(&[65_535, 65_536, 65_536, 65_537, 65_600]);
+    let missing = size.saturating_sub(text.len());
+    let byte = *random.pick(b"#  \n");
+    let filling = vec![byte; missing];
+    if random.percent(50) {
+        text.extend_from_slice(&filling);
+    } else {
+        text.splice(0..0, filling);
+        if byte == b'#' && missing > 0 {
+            text[missing - 1] = b'\n';
+        }
+    }
+}
+
+/// Any of the above.
+pub fn case(random: &mut Random) -> Case {
+    match random.below(200) {
+        0 => at_a_limit(random),
+        1..=8 => noise(random),
+        _ => ordinary(random),
+    }
+}
+
+/// A table that no reading gave: small numbers, so that links and types are often in order and often not.
+pub fn table(random: &mut Random, text_len: usize) -> Vec<u32> {
+    let rows = random.below(12);
+    let mut records: Vec<u32> = (0..10 * rows + random.below(10))
+        .map(|at| match at % 10 {
+            0 => random.below(28) as u32,
+            1 if random.percent(70) => random.below(at / 10 + 1) as u32,
+            1 | 2 | 9 => random.below(rows + 3) as u32,
+            3 => random.below(text_len + 3) as u32,
+            _ => random.below(20) as u32,
+        })
+        .collect();
+    spoil_table(random, &mut records);
+    records
+}
+
+/// A few numbers of a table changed.
+pub fn spoil_table(random: &mut Random, records: &mut [u32]) {
+    if records.is_empty() {
+        return;
+    }
+    for _ in 0..random.below(6) {
+        let at = random.below(records.len());
+        let near = (at / 10 + random.below(3)) as u32;
+        let any = random.bits() as u32;
+        records[at] = *random.pick(&[0, 1, 9, 10, 24, 25, 26, near, near, 1024, 65_536, u32::MAX, u32::MAX - 1, any]);
+    }
+}

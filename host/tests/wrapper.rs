@@ -1,0 +1,116 @@
+//! The safe wrapper gives the library's numbers their right forms.
+
+use kribbelsteen::*;
+use std::f64::consts::SQRT_2;
+
+const SAMPLE: &[u8] = b"void plastic wall 0 0 5 .5 .5 .5 0 0\n\
+    void plastic wall 0 0 5 .2 .2 .2 0 0\n\
+    wall sphere lamp 0 0 4 0 0 0 1\n\
+    void alias trim wall\n\
+    lamp illum panel 1 trim 0 3 1 2 3\n";
+
+#[test]
+fn a_scene_shows_its_primitives() {
+    let (mut records, mut reals) = ([9; RECORD * 6], [9.0; 20]);
+    let scene = Scene::read(SAMPLE, &mut records, &mut reals).expect("well-formed");
+    assert_eq!(scene.counts(), Counts { primitives: 5, reals: 17 });
+    let shown: Vec<_> = scene
+        .primitives()
+        .map(|p| (p.number(), p.kind().word(), p.name().bytes, p.modifier(), p.target(), p.next_of_name()))
+        .collect();
+    assert_eq!(
+        shown,
+        [
+            (1, "plastic", &b"wall"[..], None, None, Some(2)),
+            (2, "plastic", b"wall", None, None, None),
+            (3, "sphere", b"lamp", Some(2), None, None),
+            (4, "plastic", b"trim", None, Some(2), None),
+            (5, "illum", b"panel", Some(3), None, None),
+        ]
+    );
+    assert_eq!(scene.primitive(4).expect("there are five").reals(), [0.2, 0.2, 0.2, 0.0, 0.0]);
+    let panel = scene.primitive(5).expect("there are five");
+    assert_eq!(panel.strings().map(|word| word.bytes).collect::<Vec<_>>(), [b"trim"]);
+    assert_eq!(panel.reals(), [1.0, 2.0, 3.0]);
+    assert!(scene.primitive(0).is_none() && scene.primitive(6).is_none());
+}
+
+#[test]
+fn questions_are_answered_or_refused() {
+    let (mut records, mut reals) = ([0; RECORD * 5], [0.0; 17]);
+    let scene = Scene::read(SAMPLE, &mut records, &mut reals).expect("well-formed");
+    assert_eq!(scene.name(3), Ok(&b"lamp"[..]));
+    assert_eq!(scene.name(6), Err(Question::NoSuchPrimitive));
+    assert_eq!(scene.finish(5), Ok(Finish { material: Some(2), links: 2 }));
+    assert_eq!(scene.finish(1), Ok(Finish { material: None, links: 0 }));
+    assert_eq!(scene.finish_within(5, 1), Err(Question::UsedUp { links: 1 }));
+    assert_eq!(finish(&records, 6, 1, 9), Err(Question::BadTable));
+    assert_eq!(name(b"", &records, 5, 1), Err(Question::BadTable));
+    assert_eq!(Question::UsedUp { links: 1 }.to_string(), "the allowance of 1 links is used up (reason 19)");
+}
+
+#[test]
+fn a_refusal_says_reason_and_place() {
+    let (mut records, mut reals) = ([9; 25], [9.0; 9]);
+    let refusal = read(b"void sphere s 0 0 4 0 0 0 0", &mut records, &mut reals).expect_err("the radius is 0");
+    assert_eq!(refusal, Refusal { reason: Reason::HouseRule, place: 26 });
+    assert_eq!((records, reals), ([0; 25], [0.0; 9]));
+    let error: Box<dyn std::error::Error> = refusal.into();
+    assert_eq!(error.to_string(), "real breaks a house rule (reason 16), at byte 26");
+}
+
+#[test]
+fn numbers_and_reasons_agree() {
+    for number in 1..=16 {
+        assert_eq!(Reason::from_number(number).map(Reason::number), Some(number));
+    }
+    assert_eq!((Reason::from_number(0), Reason::from_number(17)), (None, None));
+    for number in 1..=25 {
+        let kind = Type::from_number(number).expect("25 types");
+        assert_eq!(kind as u32, number);
+        assert_eq!(kind.is_surface(), number <= 9);
+        assert_eq!(kind.is_material(), (10..=24).contains(&number));
+    }
+    assert_eq!((Type::from_number(0), Type::from_number(26)), (None, None));
+}
+
+#[test]
+fn words_end_where_the_text_does() {
+    let text = b" one\n\ttwo ";
+    let found: Vec<_> = words(text).map(|word| (word.place, word.bytes)).collect();
+    assert_eq!(found, [(1, &b"one"[..]), (6, b"two")]);
+    assert_eq!(next_word(text, 2), Word { place: 2, bytes: b"ne" });
+    for at in [9, 10, 11, usize::MAX] {
+        assert_eq!(next_word(text, at), Word { place: 10, bytes: b"" });
+    }
+    assert_eq!(words(b"").next(), None);
+}
+
+#[test]
+fn rays_hit_miss_and_are_refused() {
+    let down = [0.0, 0.0, 1.0];
+    let from = |x: f64, z: f64| Ray { origin: [x, 0.0, z], direction: down };
+    let unit = Sphere { centre: [0.0; 3], radius: 1.0 };
+    assert_eq!(sphere(&from(0.0, -5.0), &unit), Ok(Some(4.0)));
+    assert_eq!(sphere(&from(0.0, 0.0), &unit), Ok(Some(1.0)));
+    assert_eq!(sphere(&from(1.0, -5.0), &unit), Ok(Some(5.0)));
+    assert_eq!(sphere(&from(2.0, -5.0), &unit), Ok(None));
+    assert_eq!(sphere(&from(f64::NAN, -5.0), &unit), Err(Step::NotFinite));
+    assert_eq!(sphere(&from(0.0, -5.0), &Sphere { radius: 0.0, ..unit }), Err(Step::OutOfRange));
+    let flat = Ring { centre: [0.0; 3], normal: down, inner: 1.0, outer: 2.0 };
+    assert_eq!(ring(&from(1.5, -3.0), &flat), Ok(Some(3.0)));
+    assert_eq!(ring(&from(0.5, -3.0), &flat), Ok(None));
+    assert_eq!(ring(&from(0.5, -3.0), &Ring { outer: 1.0, ..flat }), Err(Step::OutOfRange));
+}
+
+#[test]
+fn light_is_reflected() {
+    let all = |x: f64| Ok(Reflection::Coefficients { te: x, tm: x, f: x });
+    assert_eq!(fresnel(1.0, 1.0, 3.0), all(0.25));
+    assert_eq!(fresnel(1.0, 1.0, 1.0), all(0.0));
+    assert_eq!(fresnel(0.5, 2.0, 1.0), Ok(Reflection::Total));
+    assert_eq!(fresnel(0.0, 1.0, 1.5), Err(Step::NotFinite));
+    assert_eq!(fresnel(1.5, 1.0, 1.5), Err(Step::OutOfRange));
+    // Rounded down: the nearest double to the root of 2 lies above it
+    assert_eq!((root(2.0), root(-0.0), root(-1.0)), (Some(SQRT_2.next_down()), Some(0.0), None));
+}

@@ -9,3 +9,7 @@ pub mod PartLaws
 pub mod ExchangeLaws
 pub mod LeastLaws
 pub mod NextLaws
+pub mod ScanLaws
+pub mod ContentLaws
+pub mod HandLaws
+pub mod BothLaws

@@ -88,12 +88,12 @@ after-none ks k h f = increasing-same (after k ks) [] (after-increasing k ks h) 
 
 -- ---- the next key
 
-found-most : (k : Key) (d : List Told) → isFound (found k d) ≡ true → (1 ≤ k .nth) × (k .nth ≤ times (k .name) d)
+pub found-most : (k : Key) (d : List Told) → isFound (found k d) ≡ true → (1 ≤ k .nth) × (k .nth ≤ times (k .name) d)
 found-most k d e =
     let h = sym (found-times k d) ∙ e in
     (leb-true 1 (k .nth) (and-left (leb 1 (k .nth)) (leb (k .nth) (times (k .name) d)) h), leb-true (k .nth) (times (k .name) d) (and-right (leb 1 (k .nth)) (leb (k .nth) (times (k .name) d)) h))
 
-found-up : (k : Key) (d : List Told) → 1 ≤ k .nth → k .nth ≤ times (k .name) d → isFound (found k d) ≡ true
+pub found-up : (k : Key) (d : List Told) → 1 ≤ k .nth → k .nth ≤ times (k .name) d → isFound (found k d) ≡ true
 found-up k d l m = found-times k d ∙ rw (le-leb 1 (k .nth) l, le-leb (k .nth) (times (k .name) d) m)
 
 module _ (l r : List Told) where

@@ -1,0 +1,65 @@
+-- `comparison::content::same_words` meets its contract.
+use mathlib.Core.Path.{_≡_, refl, sym, _∙_}
+use borrow.Author.Needs.{needs}
+use Rattle.scene.specs.Told.{wordsFrom}
+use Rattle.comparison.proofs.ContentLaws.{words-end, words-stop, words-step}
+use Rattle.comparison.specs.Compare.{sameWords}
+use Rattle.comparison.proofs.content.same_words.Statement.{statement}
+use Rattle.comparison.proofs.content.same_words.Tie as tie
+
+abbrev Inv-loop : tie.InvT-loop
+Inv-loop a i b j n p₀ q₀ left₀ p q left = sameWords (wordsFrom a p left) (wordsFrom b q left) ≡ sameWords (wordsFrom a i n) (wordsFrom b j n)
+
+abbrev μ-loop : tie.MeasureT-loop
+μ-loop a i b j n p₀ q₀ left₀ p q left = left
+
+loop-holds : tie.Need-loop-holds Inv-loop μ-loop
+loop-holds c = refl
+
+word-of-requires : tie.Need-word-of-requires Inv-loop μ-loop
+word-of-requires c κs = search needs
+
+word-of-requires-2 : tie.Need-word-of-requires-2 Inv-loop μ-loop
+word-of-requires-2 c κs = search needs
+
+same-requires : tie.Need-same-requires Inv-loop μ-loop
+same-requires c κs = search needs
+
+behind-requires : tie.Need-behind-requires Inv-loop μ-loop
+behind-requires c κs = search needs
+
+behind-requires-2 : tie.Need-behind-requires-2 Inv-loop μ-loop
+behind-requires-2 c κs = search needs
+
+sub-left : tie.Need-sub-left Inv-loop μ-loop
+sub-left c = search needs
+
+loop-less : tie.Need-loop-less Inv-loop μ-loop
+loop-less c = search needs
+
+loop-again : tie.Need-loop-again Inv-loop μ-loop
+loop-again c = words-step (c .before .before .before .before .before .before .before .before .before .before .args .a .now) (c .before .before .before .before .before .before .before .before .before .before .args .b .now) (c .before .before .before .before .before .before .before .loop .p) (c .before .before .before .before .before .before .before .loop .q) _ _ _ (c .before .before .before .before .before .word-of .ensures) (c .before .before .before .before .word-of2 .ensures) (c .before .before .before .same .ensures) (c .before .before .before .before .before .before .before .loop .left) _ _ (c .before .before .before .before .before .before .loop-test .taken) (c .before .before .if1 .taken) (c .before .behind .ensures) (c .behind2 .ensures) ∙ c .before .before .before .before .before .before .before .loop .inv
+
+returns : tie.Need-returns Inv-loop μ-loop
+returns c = sym (words-stop (c .before .before .before .before .before .before .before .before .args .a .now) (c .before .before .before .before .before .before .before .before .args .b .now) (c .before .before .before .before .before .loop .p) (c .before .before .before .before .before .loop .q) _ _ _ (c .before .before .before .word-of .ensures) (c .before .before .word-of2 .ensures) (c .before .same .ensures) (c .before .before .before .before .before .loop .left) (c .before .before .before .before .loop-test .taken) (c .if1 .left)) ∙ c .before .before .before .before .before .loop .inv
+
+returns-2 : tie.Need-returns-2 Inv-loop μ-loop
+returns-2 c = sym (words-end (c .before .before .before .before .args .a .now) (c .before .before .before .before .args .b .now) (c .before .loop .p) (c .before .loop .q) (c .before .loop .left) (c .loop-test .left)) ∙ c .before .loop .inv
+
+pub same-words-spec : {M : Type 1} → statement M
+same-words-spec =
+    tie.close
+    (tie.spec
+    Inv-loop
+    μ-loop
+    loop-holds
+    word-of-requires
+    word-of-requires-2
+    same-requires
+    behind-requires
+    behind-requires-2
+    sub-left
+    loop-less
+    loop-again
+    returns
+    returns-2)

@@ -1,0 +1,75 @@
+-- `comparison::next_line` meets its contract.
+use mathlib.Core.List.{List}
+use mathlib.Core.Path.{_≡_, refl, _∙_}
+use borrow.Author.Needs.{needs}
+use lib.ListN.{length}
+use Rattle.scene.specs.Told.{Told}
+use Rattle.comparison.proofs.HandLaws.{fewer, lines-first, lines-none, lines-same}
+use Rattle.comparison.specs.Hand.{keyIn, linesAfter}
+use Rattle.comparison.specs.Key.{keysOf}
+use Rattle.comparison.specs.Next.{after}
+use Rattle.comparison.specs.Rows.{rowsIn}
+use Rattle.comparison.proofs.next_line.Statement.{statement}
+use Rattle.comparison.proofs.next_line.Tie as tie
+
+abbrev Inv-loop : tie.InvT-loop
+Inv-loop left left-records left-count left-reals right right-records right-count right-reals at₀ at =
+    let l = rowsIn left left-records left-reals left-count in
+    let r = rowsIn right right-records right-reals right-count in
+    linesAfter l r (keyIn l r at₀) ≡ linesAfter l r (keyIn l r at)
+
+abbrev μ-loop : tie.MeasureT-loop
+μ-loop left left-records left-count left-reals right right-records right-count right-reals at₀ at =
+    let l = rowsIn left left-records left-reals left-count in
+    let r = rowsIn right right-records right-reals right-count in
+    length (after (keyIn l r at) (keysOf l r))
+
+-- the rows of both scenes
+abbrev left-rows : tie.Start Inv-loop μ-loop → List Told
+left-rows s = rowsIn (s .args .left .now) (s .args .left-records .now) (s .args .left-reals .now) (s .args .left-count)
+
+abbrev right-rows : tie.Start Inv-loop μ-loop → List Told
+right-rows s = rowsIn (s .args .right .now) (s .args .right-records .now) (s .args .right-reals .now) (s .args .right-count)
+
+loop-holds : tie.Need-loop-holds Inv-loop μ-loop
+loop-holds c = refl
+
+next-step-requires : tie.Need-next-step-requires Inv-loop μ-loop
+next-step-requires c κs = search needs
+
+enum-told : tie.Need-enum-told Inv-loop μ-loop
+enum-told c = search needs
+
+returns : tie.Need-returns Inv-loop μ-loop
+returns c = c .before .before .before .loop .inv ∙ lines-none (left-rows (c .before .before .before .before .before .before .before .before .before .before)) (right-rows (c .before .before .before .before .before .before .before .before .before .before)) _ (rw (c .enum-told .given .1) at (c .before .before .next-step .ensures))
+
+enum-known-p : tie.Need-enum-known-p Inv-loop μ-loop
+enum-known-p c = search needs
+
+loop-less : tie.Need-loop-less Inv-loop μ-loop
+loop-less c = fewer (left-rows (c .before .before .before .before .before .before .before .before .before .before .before)) (right-rows (c .before .before .before .before .before .before .before .before .before .before .before)) _ (c .before .p .given .0 .0) (rw (c .before .p .given .1) at (c .before .before .before .next-step .ensures))
+
+loop-again : tie.Need-loop-again Inv-loop μ-loop
+loop-again c = c .before .before .before .before .loop .inv ∙ lines-same (left-rows (c .before .before .before .before .before .before .before .before .before .before .before)) (right-rows (c .before .before .before .before .before .before .before .before .before .before .before)) _ (c .before .p .given .0 .0) (rw (c .before .p .given .1) at (c .before .before .before .next-step .ensures))
+
+enum-known-p-2 : tie.Need-enum-known-p-2 Inv-loop μ-loop
+enum-known-p-2 c = search needs
+
+returns-2 : tie.Need-returns-2 Inv-loop μ-loop
+returns-2 c = lines-first (left-rows (c .before .before .before .before .before .before .before .before .before .before .before)) (right-rows (c .before .before .before .before .before .before .before .before .before .before .before)) _ _ _ _ _ (c .before .before .before .before .loop .inv) (rw (c .before .p2 .given .1) at (c .before .before .before .next-step .ensures))
+
+pub next-line-spec : {M : Type 1} → statement M
+next-line-spec =
+    tie.close
+    (tie.spec
+    Inv-loop
+    μ-loop
+    loop-holds
+    next-step-requires
+    enum-told
+    returns
+    enum-known-p
+    loop-less
+    loop-again
+    enum-known-p-2
+    returns-2)

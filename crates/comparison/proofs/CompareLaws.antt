@@ -4,15 +4,16 @@ use mathlib.Core.List.{List, [], _∷_, map}
 use mathlib.Core.Path.{_≡_, refl, ap, sym, _∙_}
 use borrow.Author.Tests.{eq-eqb}
 use lib.Ieee.{Float, binary64, toBits}
+use Rattle.bits.specs.Bits.{sameReals}
 use Rattle.laws.proofs.BoolLaws.{cond-elim}
 use Rattle.laws.proofs.BytesLaws.{same-refl}
 use Rattle.laws.specs.Bytes.{Bytes}
 use Rattle.scene.specs.Told.{Told}
 use Rattle.comparison.proofs.KeyLaws.{keys-stand, keys-turned}
 use Rattle.comparison.proofs.OrderLaws.{eqb-sym, same-sym, key-same, key-sym}
-use Rattle.comparison.specs.Compare.{Content, contentOf, sameWords, sameReals, sameContent, State, absent, left, right, changed, alike, stateAt, stateOf, Line, line, linesFor, compared, turned, turnedLine}
-use Rattle.comparison.specs.Key.{Key, found, keysOf}
-use Rattle.comparison.specs.Properties.{standsIn, isFound}
+use Rattle.comparison.specs.Compare.{Content, contentOf, sameWords, sameContent, State, absent, left, right, changed, alike, stateAt, stateOf, Line, line, linesFor, compared, turned, turnedLine}
+use Rattle.comparison.specs.Key.{Key, found, isFound, keysOf}
+use Rattle.comparison.specs.Properties.{standsIn}
 
 -- ---- equal content
 

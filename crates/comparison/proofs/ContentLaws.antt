@@ -1,33 +1,26 @@
--- Strings word by word, reals by their bits, and the five tests of what a primitive is.
-use mathlib.Core.Bool.{Bool, true, false, not, Bool·beq, cond, _&&_, and-false}
-use mathlib.Core.List.{List, [], _∷_}
+-- Strings word by word, reals, and the five tests of what a primitive is.
+use mathlib.Core.Bool.{Bool, true, false, cond, _&&_, and-false}
+use mathlib.Core.List.{List, []}
 use mathlib.Core.Path.{_≡_, refl, ap, sym, _∙_}
-use Prim.Native.Nat.{ℕ, zero, suc, _+_, _-_, _*_, _≤_, _<_, min}
-use native.Mathlib.Numerals.{add-one}
+use Prim.Native.Nat.{ℕ, zero, suc, _+_, _-_, _≤_, _<_, min}
 use native.Mathlib.Omega.{arith}
 use borrow.Author.Tests.{eq-eqb, ne-eqb}
-use lib.Dec.{T, eqb, leb}
-use lib.Ieee.{Float, nan, inf, fin, binary64, eq, isNan, toBits, level, up, down}
-use lib.ListN.{length, take, drop, getD, drop-of-length-le, length-drop}
-use lib.Seq.{drop-cons}
+use lib.Dec.{eqb, leb}
+use lib.Ieee.{Float}
+use lib.ListN.{length, take, drop, length-drop}
+use Rattle.bits.specs.Bits.{sameReals}
 use Rattle.laws.proofs.ListLaws.{drop-min, take-min}
-use Rattle.laws.specs.Bytes.{Bytes, part, same}
-use Rattle.lexer.specs.Word.{wordAt}
-use Rattle.lexer.specs.declared.Word.{Word}
-use Rattle.lexer.proofs.WordLaws.{end-most}
+use Rattle.laws.specs.Bytes.{Bytes, same}
+use Rattle.lexer.specs.Word.{wordBytes, wordEnd}
 use Rattle.scene.specs.Record.{recordIn, fieldIn}
 use Rattle.scene.specs.Told.{tells, wordsFrom}
 use Rattle.comparison.proofs.ScanLaws.{from-within, key-reals}
-use Rattle.comparison.specs.Compare.{contentOf, sameContent, sameReals, sameWords}
+use Rattle.comparison.specs.Compare.{contentOf, sameContent, sameWords}
 use Rattle.comparison.specs.Key.{keyAt, keyOf, sameKey}
 use Rattle.comparison.specs.Rows.{rowsIn}
-use Rattle.comparison.specs.Scan.{behind, realsOf, stringsOf, wordIn}
+use Rattle.comparison.specs.Scan.{realsOf, stringsOf}
 
 -- ---- words
-
-pub behind-most : (text : Bytes) (at : ℕ) → behind text at ≤ length text
-unfolding behind
-behind-most text at = end-most text at
 
 module _ (a b : Bytes) (i j : ℕ) where
   pub words-end : (n : ℕ) → n ≤ 0 → sameWords (wordsFrom a i n) (wordsFrom b j n) ≡ true
@@ -35,83 +28,29 @@ module _ (a b : Bytes) (i j : ℕ) where
   words-end zero h = refl
   words-end (suc n) h = absurd (omega arith)
 
-  module _ (u v : Bytes) (r : Bool) (e : u ≡ wordIn a i) (f : v ≡ wordIn b j) (t : r ≡ same u v) where
-    word-is : same (wordIn a i) (wordIn b j) ≡ r
+  module _ (u v : Bytes) (r : Bool) (e : u ≡ wordBytes a i) (f : v ≡ wordBytes b j) (t : r ≡ same u v) where
+    word-is : same (wordBytes a i) (wordBytes b j) ≡ r
     word-is = (λ k. same (sym e k) (sym f k)) ∙ sym t
 
     pub words-stop : (n : ℕ) → 0 < n → r ≡ false → sameWords (wordsFrom a i n) (wordsFrom b j n) ≡ false
-    unfolding sameWords wordsFrom wordIn
+    unfolding sameWords wordsFrom
     words-stop zero h g = absurd (omega arith)
     words-stop (suc n) h g = rw (word-is ∙ g)
 
-    pub words-step : (n p q : ℕ) → 0 < n → r ≡ true → p ≡ behind a i → q ≡ behind b j → sameWords (wordsFrom a p (n - 1)) (wordsFrom b q (n - 1)) ≡ sameWords (wordsFrom a i n) (wordsFrom b j n)
-    unfolding sameWords wordsFrom wordIn behind
+    pub words-step : (n p q : ℕ) → 0 < n → r ≡ true → p ≡ wordEnd a i → q ≡ wordEnd b j → sameWords (wordsFrom a p (n - 1)) (wordsFrom b q (n - 1)) ≡ sameWords (wordsFrom a i n) (wordsFrom b j n)
+    unfolding sameWords wordsFrom
     words-step zero p q h g x y = absurd (omega arith)
     words-step (suc n) p q h g x y = let m : suc n - 1 ≡ n = omega arith in (λ k. sameWords (wordsFrom a (x k) (m k)) (wordsFrom b (y k) (m k))) ∙ rw (word-is ∙ g)
 
--- the code's word, and the place behind it
-module _ (text : Bytes) (at : ℕ) (w : Word) (e : w ≡ wordAt text at) where
-  pub word-part : part text (w .place) (w .len) ≡ wordIn text at
-  unfolding wordIn
-  word-part = λ i. part text (e i .place) (e i .len)
-
-  pub behind-word : w .place + w .len ≡ behind text at
-  unfolding behind
-  behind-word = λ i. e i .place + e i .len
-
-  pub behind-fits : w .place + w .len ≤ length text
-  behind-fits = omega (arith, behind-word, behind-most text at)
-
 -- a different count of words
 pub words-count : (a b : Bytes) (i j n m : ℕ) → (n ≡ m → ⊥) → sameWords (wordsFrom a i n) (wordsFrom b j m) ≡ false
-unfolding sameWords wordsFrom behind wordIn
+unfolding sameWords wordsFrom
 words-count a b i j zero zero h = absurd (h refl)
 words-count a b i j zero (suc m) h = refl
 words-count a b i j (suc n) zero h = refl
-words-count a b i j (suc n) (suc m) h = rw (words-count a b (behind a i) (behind b j) n m (λ e. h (ap suc e))) (and-false (same (wordIn a i) (wordIn b j)))
+words-count a b i j (suc n) (suc m) h = rw (words-count a b (wordEnd a i) (wordEnd b j) n m (λ e. h (ap suc e))) (and-false (same (wordBytes a i) (wordBytes b j)))
 
--- ---- bits
-
--- what equals itself is no NaN, and what does not is one
-pub number : (x : Float) → eq x x ≡ true → T (not (isNan x))
-unfolding eq isNan
-number nan e = let z : _≡_ {A = ℕ} 0 1 = cc in absurd (omega arith)
-number (inf s) e = tt
-number (fin s m p) e = tt
-
-beq-refl : (s : Bool) → Bool·beq s s ≡ true
-beq-refl true = refl
-beq-refl false = refl
-
-level-refl : (s : Bool) (n : ℕ) → level s n s n ≡ true
-level-refl s n = rw (eq-eqb n n refl, beq-refl s)
-
-pub nan-bits : (x : Float) → eq x x ≡ false → 9221120237041090560 ≡ toBits binary64 x
-unfolding eq toBits
-nan-bits nan e = refl
-nan-bits (inf s) e = let h = beq-refl s in let z : _≡_ {A = ℕ} 0 1 = cc in absurd (omega arith)
-nan-bits (fin s m p) e = let h = level-refl s (m * up p * down p) in let z : _≡_ {A = ℕ} 0 1 = cc in absurd (omega arith)
-
-pub reals-length : (a b : List Float) → (length a ≡ length b → ⊥) → sameReals a b ≡ false
-unfolding sameReals
-reals-length [] [] h = absurd (h refl)
-reals-length [] (y ∷ b) h = refl
-reals-length (x ∷ a) [] h = refl
-reals-length (x ∷ a) (y ∷ b) h = rw (reals-length a b (λ e. h (ap suc e))) (and-false (eqb (toBits binary64 x) (toBits binary64 y)))
-
--- lists of one length, from place i on: past the end, at a real that differs, and past one that agrees
-module _ (a b : List Float) (h : length a ≡ length b) (i : ℕ) where
-  pub reals-end : length a ≤ i → sameReals (drop i a) (drop i b) ≡ true
-  unfolding sameReals
-  reals-end l = let m : length b ≤ i = omega arith in rw (drop-of-length-le a l, drop-of-length-le b m)
-
-  pub reals-stop : i < length a → (toBits binary64 (getD a i nan) ≡ toBits binary64 (getD b i nan) → ⊥) → sameReals (drop i a) (drop i b) ≡ false
-  unfolding sameReals
-  reals-stop l e = let m : i < length b = omega arith in rw (drop-cons a i nan l, drop-cons b i nan m, ne-eqb (toBits binary64 (getD a i nan)) (toBits binary64 (getD b i nan)) e)
-
-  pub reals-step : i < length a → toBits binary64 (getD a i nan) ≡ toBits binary64 (getD b i nan) → sameReals (drop (i + 1) a) (drop (i + 1) b) ≡ sameReals (drop i a) (drop i b)
-  unfolding sameReals
-  reals-step l e = let m : i < length b = omega arith in rw (add-one, drop-cons a i nan l, drop-cons b i nan m, eq-eqb (toBits binary64 (getD a i nan)) (toBits binary64 (getD b i nan)) e)
+-- ---- reals
 
 -- reals whose start and count are cut to what the table has
 pub cut-reals : (reals : List Float) (records : List ℕ) (n first many start size : ℕ) → first ≡ fieldIn records n 7 → many ≡ fieldIn records n 8 → start ≡ min first (length reals) → size ≡ min many (length reals - start) → take (start + size - start) (drop start reals) ≡ realsOf reals (recordIn records n)

@@ -4,8 +4,8 @@ use mathlib.Core.List.{List, [], _∷_}
 use mathlib.Core.Path.{_≡_, refl, ap, sym, _∙_}
 use Rattle.scene.specs.Told.{Told}
 use Rattle.comparison.proofs.OrderLaws.{same-key, key-same, before-one, before-transitive}
-use Rattle.comparison.specs.Key.{Key, keyOver, sameKey, found, before, insert, insertAll, keysOf}
-use Rattle.comparison.specs.Properties.{OneOf, first, second, third, Ahead, Increasing, standsIn, isFound}
+use Rattle.comparison.specs.Key.{Key, keyOver, sameKey, found, isFound, before, insert, insertAll, keysOf}
+use Rattle.comparison.specs.Properties.{OneOf, first, second, third, Ahead, Increasing, standsIn}
 
 -- ---- in order
 

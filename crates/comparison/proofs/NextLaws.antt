@@ -15,10 +15,10 @@ use Rattle.scene.specs.Told.{Told}
 use Rattle.comparison.proofs.KeyLaws.{ahead-over, increasing-same, keys-increasing, keys-stand}
 use Rattle.comparison.proofs.LeastLaws.{LeastOf, Least, least-lesser, least-name}
 use Rattle.comparison.proofs.NumberLaws.{found-times}
-use Rattle.comparison.proofs.OrderLaws.{lower-irreflexive, lower-transitive, same-key, before-one, Earlier, before-earlier, earlier-before, before-transitive}
-use Rattle.comparison.specs.Key.{Key, times, sameKey, found, lower, before, keysOf}
+use Rattle.comparison.proofs.OrderLaws.{lower-irreflexive, lower-transitive, same-key, key-same, before-one, Earlier, before-earlier, earlier-before, before-transitive}
+use Rattle.comparison.specs.Key.{Key, times, sameKey, found, isFound, lower, before, keysOf}
 use Rattle.comparison.specs.Next.{after, start, lesser, leastAbove, oneMore, firstNamed, firstOf, nextKey, onward}
-use Rattle.comparison.specs.Properties.{OneOf, first, second, third, Ahead, Increasing, standsIn, isFound}
+use Rattle.comparison.specs.Properties.{OneOf, first, second, third, Ahead, Increasing, standsIn}
 
 -- ---- those that come after a key
 
@@ -93,7 +93,7 @@ found-most k d e =
     let h = sym (found-times k d) ∙ e in
     (leb-true 1 (k .nth) (and-left (leb 1 (k .nth)) (leb (k .nth) (times (k .name) d)) h), leb-true (k .nth) (times (k .name) d) (and-right (leb 1 (k .nth)) (leb (k .nth) (times (k .name) d)) h))
 
-pub found-up : (k : Key) (d : List Told) → 1 ≤ k .nth → k .nth ≤ times (k .name) d → isFound (found k d) ≡ true
+found-up : (k : Key) (d : List Told) → 1 ≤ k .nth → k .nth ≤ times (k .name) d → isFound (found k d) ≡ true
 found-up k d l m = found-times k d ∙ rw (le-leb 1 (k .nth) l, le-leb (k .nth) (times (k .name) d) m)
 
 module _ (l r : List Told) where
@@ -169,6 +169,11 @@ module _ (l r : List Told) where
         go : (b : Bool) → standsIn (oneMore k) (keysOf l r) ≡ b → after k (keysOf l r) ≡ onward (cond b (some (oneMore k)) (firstOf (lesser (leastAbove (k .name) l) (leastAbove (k .name) r)))) (keysOf l r)
         go true e = after-some (keysOf l r) k (oneMore k) (keys-increasing l r) (follows-more e)
         go false e = after-above e (lesser (leastAbove (k .name) l) (leastAbove (k .name) r)) (least-lesser (k .name) (λ v. times v l) (λ v. times v r) (leastAbove (k .name) l) (leastAbove (k .name) r) (least-name (k .name) l) (least-name (k .name) r))
+
+    -- the next key is in one of both scenes
+    pub next-stands : (i : Key) → nextKey l r k ≡ some i → standsIn i (keysOf l r) ≡ true
+    unfolding standsIn
+    next-stands i e = and-right (before k i) (standsIn i (keysOf l r)) (sym (stands-after i k (keysOf l r)) ∙ ap (standsIn i) (after-next ∙ ap (λ (o : Option Key). onward o (keysOf l r)) e) ∙ rw (key-same i))
 
   -- every key comes after the start
   pub after-start : after start (keysOf l r) ≡ keysOf l r

@@ -12,8 +12,7 @@ use Rattle.laws.proofs.BytesLaws.{same-eq, same-refl}
 use Rattle.laws.specs.Bytes.{Bytes, same}
 use Rattle.scene.specs.Told.{Told}
 use Rattle.comparison.proofs.OrderLaws.{same-key, key-same}
-use Rattle.comparison.specs.Key.{Key, times, keyOver, from, sameKey, found}
-use Rattle.comparison.specs.Properties.{isFound}
+use Rattle.comparison.specs.Key.{Key, times, keyOver, from, sameKey, found, isFound}
 
 -- ---- how often a name stands
 

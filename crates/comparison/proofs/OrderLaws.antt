@@ -97,9 +97,6 @@ before-one a b = rw (and-comm (eqb (a .nth) (b .nth)), same-sym (b .name) (a .na
 pub key-sym : (a b : Key) → sameKey a b ≡ sameKey b a
 key-sym a b = middle (before-one a b) (before-one b a)
 
-pub before-irreflexive : (a : Key) → before a a ≡ false
-before-irreflexive a = alone (rw key-same at (before-one a a))
-
 -- the names decide, and where they are the same the counts do
 abbrev pub Earlier : Key → Key → Type 0
 Earlier a b = (lower (a .name) (b .name) ≡ true) ⊎ ((a .name ≡ b .name) × (a .nth < b .nth))

@@ -11,8 +11,7 @@ use Rattle.scene.specs.Told.{Told, renumbered}
 use Rattle.comparison.proofs.CompareLaws.{Quiet, quiet-compared, quiet-alike}
 use Rattle.comparison.proofs.NumberLaws.{found-times, found-from, from-found}
 use Rattle.comparison.specs.Compare.{contentOf, stateAt, stateOf, compared}
-use Rattle.comparison.specs.Key.{Key, times, keyOver, from, keyAt, keyOf, found}
-use Rattle.comparison.specs.Properties.{isFound}
+use Rattle.comparison.specs.Key.{Key, times, keyOver, from, keyAt, keyOf, found, isFound}
 
 module _ (l r : List Told) (f : ℕ → ℕ) (keys : (n : ℕ) → keyOf r (f n) ≡ keyOf l n) (often : (w : Bytes) → times w r ≡ times w l) (rows : (n : ℕ) (t u : Told) (x y : List Told) → from n l ≡ t ∷ x → from (f n) r ≡ u ∷ y → u ≡ renumbered f t) where
   both : (k : Key) → isFound (found k r) ≡ isFound (found k l)

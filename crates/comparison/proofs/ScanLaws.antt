@@ -18,9 +18,8 @@ use Rattle.laws.specs.Bytes.{Bytes, part, same}
 use Rattle.scene.specs.Record.{recordIn, fieldIn}
 use Rattle.scene.specs.Told.{Told, tells}
 use Rattle.comparison.proofs.NumberLaws.{found-times, from-above, from-found}
-use Rattle.comparison.specs.Key.{Key, times, keyOver, keyAt, keyOf, from, sameKey, found, lower}
+use Rattle.comparison.specs.Key.{Key, times, keyOver, keyAt, keyOf, from, sameKey, found, isFound, lower}
 use Rattle.comparison.specs.Next.{lesser, above, leastAbove}
-use Rattle.comparison.specs.Properties.{isFound}
 use Rattle.comparison.specs.Rows.{rowsIn}
 use Rattle.comparison.specs.Scan.{nameAt, namedBy, nthOf, better}
 

@@ -3,7 +3,8 @@ use mathlib.Core.Bool.{Bool, true, false, cond, _&&_}
 use mathlib.Core.List.{List, [], _∷_}
 use Prim.Native.Nat.{ℕ}
 use lib.Dec.{eqb}
-use lib.Ieee.{Float, binary64, toBits}
+use lib.Ieee.{Float}
+use Rattle.bits.specs.Bits.{sameReals}
 use Rattle.laws.specs.Bytes.{Bytes, same}
 use Rattle.scene.specs.Told.{Told}
 use Rattle.comparison.specs.Key.{Key, found, keyOf, keysOf, sameKey}
@@ -24,13 +25,6 @@ sameWords [] [] = true
 sameWords [] (y ∷ ys) = false
 sameWords (x ∷ xs) [] = false
 sameWords (x ∷ xs) (y ∷ ys) = same x y && sameWords xs ys
-
--- "real bits": -0 is not 0
-unfoldable pub sameReals : List Float → List Float → Bool
-sameReals [] [] = true
-sameReals [] (y ∷ ys) = false
-sameReals (x ∷ xs) [] = false
-sameReals (x ∷ xs) (y ∷ ys) = eqb (toBits binary64 x) (toBits binary64 y) && sameReals xs ys
 
 -- "same means equal type, strings, real bits, alias key and modifier key"
 unfoldable pub sameContent : Content → Content → Bool

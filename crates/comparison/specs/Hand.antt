@@ -1,16 +1,16 @@
 -- "Lines go out one by one in key order": what comes after a key, as the code hands it out.
-use mathlib.Core.Bool.{cond, _||_}
+use mathlib.Core.Bool.{cond}
 use mathlib.Core.List.{List, [], _∷_}
 use mathlib.Core.Option.{Option, none, some}
-use mathlib.Core.Path.{_≡_}
-use Prim.Native.Nat.{ℕ, zero, suc, _≤_}
-use lib.Dec.{eqb}
+use Prim.Native.Nat.{ℕ, zero, suc}
+use lib.Dec.{eqb, leb}
+use lib.ListN.{length}
 use Rattle.laws.specs.Bytes.{Bytes}
 use Rattle.scene.specs.Told.{Told}
-use Rattle.comparison.specs.Compare.{State, left, right, changed, alike, stateOf, Line, linesFor}
+use Rattle.comparison.specs.Compare.{State, absent, left, right, changed, alike, stateOf, Line, linesFor}
 use Rattle.comparison.specs.Key.{Key, keyOf, keysOf, found, lower}
 use Rattle.comparison.specs.Next.{after}
-use Rattle.comparison.specs.Properties.{isFound}
+use Rattle.comparison.specs.Rows.{rowsIn}
 use Rattle.comparison.specs.Scan.{nameAt}
 use Rattle.comparison.specs.declared.Next.{Next}
 use Rattle.comparison.specs.declared.Place.{Place}
@@ -26,53 +26,75 @@ abbrev pub keyIn : (l r : List Told) → Place → Key
 keyIn l r (on.Left n) = keyOf l n
 keyIn l r (on.Right n) = keyOf r n
 
--- its number, on whichever side
-abbrev pub numberOf : Place → ℕ
-numberOf (on.Left n) = n
-numberOf (on.Right n) = n
+-- a place, of which a number above its scene's count stands for no primitive
+abbrev pub heldIn : (m n : ℕ) → Place → Place
+heldIn m n (on.Left k) = on.Left (cond (leb k m) k 0)
+heldIn m n (on.Right k) = on.Right (cond (leb k n) k 0)
 
--- the state that the code's answer names
-abbrev pub stateIn : CodeState → State
-stateIn is.OnlyLeft = left
-stateIn is.OnlyRight = right
-stateIn is.Changed = changed
+-- the rows from a place's number on; names need no reals
+abbrev pub rowsAt : Bytes → List ℕ → Bytes → List ℕ → Place → List Told
+rowsAt a records b others (on.Left n) = rowsIn a records [] n
+rowsAt a records b others (on.Right n) = rowsIn b others [] n
 
--- a key, where either scene has it
-unfoldable pub standing : (l r : List Told) → Key → Option Key
-standing l r k = cond (isFound (found k l) || isFound (found k r)) (some k) none
+-- by what was found in each scene: the left one's number, or else the right one's; a number is how many stand from it on
+abbrev pub placeIn : (inLeft inRight : List Told) → Place
+placeIn [] y = on.Right (length y)
+placeIn (t ∷ x) y = on.Left (length (t ∷ x))
 
--- of numbers m and n, the one with the lesser name; the other where one is 0
-unfoldable pub lesserOf : Bytes → List ℕ → (m : ℕ) → Bytes → List ℕ → (n : ℕ) → Place
+-- the number of a key: in the left scene where that has it, else in the right one
+abbrev pub placeOf : (l r : List Told) → Key → Place
+placeOf l r k = placeIn (found k l) (found k r)
+
+-- of the names of numbers m and n, the lesser; the other where one is 0
+unfoldable pub lesserOf : Bytes → List ℕ → (m : ℕ) → Bytes → List ℕ → (n : ℕ) → Bytes
 lesserOf a records m b others n =
-    cond (eqb m 0) (on.Right n) (cond (eqb n 0) (on.Left m) (cond (lower (nameAt b others n) (nameAt a records m)) (on.Right n) (on.Left m)))
+    let first = nameAt a records m in
+    let second = nameAt b others n in
+    cond (eqb m 0) second (cond (eqb n 0) first (cond (lower second first) second first))
 
--- a place holds the key looked for, which is in that state, and the nth of it
-pub record Holds (l r : List Told) (o : Option Key) (p : Place) (n : ℕ) (s : CodeState) : Type 0 where
-  pub key : o ≡ some (keyIn l r p)
-  pub state : stateOf l r (keyIn l r p) ≡ stateIn s
-  pub nth : n ≡ keyIn l r p .nth
-  pub stands : 1 ≤ numberOf p
+-- what a key in a state comes to, with its number and its nth
+abbrev pub stepIn : State → Place → (nth : ℕ) → Step
+stepIn absent p n = step.End
+stepIn alike p n = step.Same p
+stepIn left p n = step.Line p n is.OnlyLeft
+stepIn right p n = step.Line p n is.OnlyRight
+stepIn changed p n = step.Line p n is.Changed
 
--- what the key looked for comes to
-abbrev pub Comes : (l r : List Told) → Option Key → Step → Type 0
-Comes l r o step.End = o ≡ none
-Comes l r o (step.Same p) = (o ≡ some (keyIn l r p)) × (stateOf l r (keyIn l r p) ≡ alike)
-Comes l r o (step.Line p n s) = Holds l r o p n s
+-- what a key comes to
+abbrev pub stepAt : (l r : List Told) → Key → Step
+stepAt l r k = stepIn (stateOf l r k) (placeOf l r k) (k .nth)
+
+-- what the key looked for comes to, where there is one
+abbrev pub stepFor : (l r : List Told) → Option Key → Step
+stepFor l r none = step.End
+stepFor l r (some k) = stepAt l r k
 
 -- the lines for what comes after a key
 abbrev pub linesAfter : (l r : List Told) → Key → List Line
 linesAfter l r k = linesFor l r (after k (keysOf l r))
 
--- the line handed out is the first of those after k, and those after its key are the rest
-pub record First (l r : List Told) (k : Key) (p : Place) (n : ℕ) (s : CodeState) : Type 0 where
-  pub lines : linesAfter l r k ≡ record { key = keyIn l r p; state = stateIn s } ∷ linesAfter l r (keyIn l r p)
-  pub nth : n ≡ keyIn l r p .nth
-  pub stands : 1 ≤ numberOf p
+-- the answer for a key in a state, with its number and its nth; only three states have a line
+abbrev pub answerIn : State → Place → (nth : ℕ) → Next
+answerIn absent p n = next.End
+answerIn alike p n = next.End
+answerIn left p n = next.Line p n is.OnlyLeft
+answerIn right p n = next.Line p n is.OnlyRight
+answerIn changed p n = next.Line p n is.Changed
 
--- what an answer says of the lines after k: there are none, or this is the first
-abbrev pub Hands : (l r : List Told) → Key → Next → Type 0
-Hands l r k next.End = linesAfter l r k ≡ []
-Hands l r k (next.Line p n s) = First l r k p n s
+-- the answer for the first of some lines: its number, its nth and its state; the end where there is none
+abbrev pub firstLine : (l r : List Told) → List Line → Next
+firstLine l r [] = next.End
+firstLine l r (x ∷ xs) = answerIn (x .state) (placeOf l r (x .key)) (x .key .nth)
+
+-- what is answered after a key: the first of the lines after it
+abbrev pub nextLine : (l r : List Told) → Key → Next
+nextLine l r k = firstLine l r (linesAfter l r k)
+
+-- the state that an answer names
+abbrev pub stateIn : CodeState → State
+stateIn is.OnlyLeft = left
+stateIn is.OnlyRight = right
+stateIn is.Changed = changed
 
 -- a line handed out, and what follows from its place
 abbrev pub handedOn : (l r : List Told) → (Place → List Line) → Next → List Line

@@ -41,6 +41,11 @@ unfoldable pub found : Key → List Told → List Told
 found k [] = []
 found k (t ∷ d) = cond (sameKey k (keyOver t d)) (t ∷ d) (found k d)
 
+-- whether one has it
+abbrev pub isFound : List Told → Bool
+isFound [] = false
+isFound (t ∷ d) = true
+
 -- "names by bytes": the first byte that differs decides, and a prefix comes first
 unfoldable pub lower : Bytes → Bytes → Bool
 lower [] [] = false

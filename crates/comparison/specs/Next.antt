@@ -5,8 +5,7 @@ use mathlib.Core.Option.{Option, none, some}
 use Prim.Native.Nat.{suc}
 use Rattle.laws.specs.Bytes.{Bytes}
 use Rattle.scene.specs.Told.{Told}
-use Rattle.comparison.specs.Key.{Key, keyAt, found, lower, before}
-use Rattle.comparison.specs.Properties.{isFound}
+use Rattle.comparison.specs.Key.{Key, keyAt, found, isFound, lower, before}
 
 -- those of a list that come after a key
 unfoldable pub after : Key → List Key → List Key

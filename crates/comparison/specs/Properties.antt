@@ -2,7 +2,6 @@
 use mathlib.Core.Bool.{Bool, true, false, _||_}
 use mathlib.Core.List.{List, [], _∷_}
 use mathlib.Core.Path.{_≡_}
-use Rattle.scene.specs.Told.{Told}
 use Rattle.comparison.specs.Key.{Key, sameKey, before}
 
 -- exactly one of three tests holds
@@ -25,8 +24,3 @@ Increasing (x ∷ xs) = Ahead x xs × Increasing xs
 unfoldable pub standsIn : Key → List Key → Bool
 standsIn k [] = false
 standsIn k (x ∷ xs) = sameKey k x || standsIn k xs
-
--- something was found
-abbrev pub isFound : List Told → Bool
-isFound [] = false
-isFound (t ∷ d) = true

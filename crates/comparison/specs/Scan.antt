@@ -1,26 +1,18 @@
--- What the code works out over a text and a table: words, names, and numbers of primitives, of which 0 is none.
+-- What the code works out over a text and a table: names, and numbers of primitives, of which 0 is none.
 use mathlib.Core.Bool.{cond}
 use mathlib.Core.List.{List, []}
 use mathlib.Core.Option.{Option, none, some}
 use mathlib.Core.Path.{_≡_}
-use Prim.Native.Nat.{ℕ, zero, suc, _+_, _≤_}
+use Prim.Native.Nat.{ℕ, zero, suc, _≤_}
 use lib.Dec.{eqb}
 use lib.Ieee.{Float}
 use lib.ListN.{take, drop}
 use Rattle.laws.specs.Bytes.{Bytes, part}
-use Rattle.lexer.specs.Word.{wordAt}
 use Rattle.scene.specs.Record.{Record, recordIn}
 use Rattle.scene.specs.Told.{wordsFrom}
 use Rattle.comparison.specs.Key.{Key, lower}
 use Rattle.comparison.specs.Next.{leastAbove}
 use Rattle.comparison.specs.Rows.{rowsIn}
-
--- the word at or after a place, and the place behind it
-unfoldable pub wordIn : Bytes → ℕ → Bytes
-wordIn text at = part text (wordAt text at .place) (wordAt text at .len)
-
-unfoldable pub behind : Bytes → ℕ → ℕ
-behind text at = wordAt text at .place + wordAt text at .len
 
 -- the strings and the reals of a record
 abbrev pub stringsOf : Bytes → Record → List Bytes

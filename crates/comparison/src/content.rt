@@ -1,50 +1,20 @@
 // What two primitives are, compared: type, strings, reals by their bits, and the keys of alias target and modifier.
 ghost use mathlib.Core.List.{[]};
 ghost use mathlib.Core.Path.{_≡_};
-ghost use Prim.Native.Nat.{min};
-ghost use lib.Ieee.{binary64, toBits};
 ghost use Rattle.scene.specs.Record.{fieldIn, recordIn};
 ghost use Rattle.scene.specs.Told.{tells, wordsFrom};
-ghost use Rattle.comparison.specs.Compare.{contentOf, sameContent, sameReals, sameWords};
+ghost use Rattle.comparison.specs.Compare.{contentOf, sameContent, sameWords};
 ghost use Rattle.comparison.specs.Key.{keyOf, sameKey};
 ghost use Rattle.comparison.specs.Rows.{rowsIn};
-ghost use Rattle.comparison.specs.Scan.{behind, realsOf, stringsOf, wordIn};
+ghost use Rattle.comparison.specs.Scan.{realsOf, stringsOf};
 use crate::names;
-
-// Of a record's numbers: type, modifier link, alias target, first string's place, string count, first real's index, real
-// count.
-const KIND: usize = 0;
-
-const MODIFIER: usize = 1;
-
-const TARGET: usize = 2;
-
-const STRING: usize = 5;
-
-const STRINGS: usize = 6;
-
-const REAL: usize = 7;
-
-const REALS: usize = 8;
-
-// What the definition of bits gives for a NaN, whose pattern the machine leaves open.
-const NAN_BITS: u64 = 9221120237041090560;
-
-// The word at or after a place.
-fn word_of(text: &[u8], at: usize) -> &[u8]
-    ensures { λ r. ⌜ now r ≡ wordIn (now (text .entry)) at ⌝ }
-{
-    let w = lexer::next_word(text, at);
-    lexer::part(text, w.place, w.len)
-}
-
-// The place behind that word.
-fn behind(text: &[u8], at: usize) -> usize
-    ensures { λ r. ⌜ r ≡ behind (now (text .entry)) at ⌝ }
-{
-    let w = lexer::next_word(text, at);
-    w.place + w.len
-}
+use finish::KIND;
+use finish::MODIFIER;
+use finish::REAL;
+use finish::REALS;
+use finish::STRING;
+use finish::STRINGS;
+use finish::TARGET;
 
 // Whether n words of one text agree with as many of another.
 fn same_words(a: &[u8], i: usize, b: &[u8], j: usize, n: usize) -> bool
@@ -54,9 +24,9 @@ fn same_words(a: &[u8], i: usize, b: &[u8], j: usize, n: usize) -> bool
     let mut q = j;
     let mut left = n;
     while 0 < left {
-        if lexer::same(word_of(a, p), word_of(b, q)) {
-            p = behind(a, p);
-            q = behind(b, q);
+        if lexer::same(lexer::word_bytes(a, p), lexer::word_bytes(b, q)) {
+            p = lexer::past_word(a, p);
+            q = lexer::past_word(b, q);
             left -= 1;
         } else {
             return false;
@@ -84,47 +54,14 @@ fn same_strings(
     same_words(a, i, b, j, many)
 }
 
-// The bits of a real, for a NaN too.
-fn bits_of(x: f64) -> u64
-    ensures { λ r. ⌜ r ≡ toBits binary64 x ⌝ }
-{
-    if x == x {
-        return f64::to_bits(x);
-    }
-    NAN_BITS
-}
-
-// Whether two lists of reals have the same bits.
-fn same_bits(a: &[f64], b: &[f64]) -> bool
-    ensures { λ r. ⌜ r ≡ sameReals (now (a .entry)) (now (b .entry)) ⌝ }
-{
-    if a.len() != b.len() {
-        return false;
-    }
-    let mut i = 0;
-    while i < a.len() {
-        if bits_of(a[i]) != bits_of(b[i]) {
-            return false;
-        }
-        i += 1;
-    }
-    true
-}
-
-fn least(a: usize, b: usize) -> usize
-    ensures { λ r. ⌜ r ≡ min a b ⌝ }
-{
-    if a < b { a } else { b }
-}
-
 // The reals of record n: those of them that the table has.
 fn reals_of<'a>(records: &[u32], reals: &'a [f64], n: usize) -> &'a [f64]
     ensures { λ r. ⌜ now r ≡ realsOf (now (reals .entry)) (recordIn (now (records .entry)) n) ⌝ }
 {
     let first = names::number(records, n, REAL);
     let many = names::number(records, n, REALS);
-    let start = least(first, reals.len());
-    let end = start + least(many, reals.len() - start);
+    let start = lexer::least(first, reals.len());
+    let end = start + lexer::least(many, reals.len() - start);
     &reals[start..end]
 }
 
@@ -168,7 +105,7 @@ pub fn same_content(
     if !same_strings(a, a_records, m, b, b_records, n) {
         return false;
     }
-    if !same_bits(
+    if !bits::same_bits(
         reals_of(a_records, a_reals, m),
         reals_of(b_records, b_reals, n),
     ) {

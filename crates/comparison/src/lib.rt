@@ -4,10 +4,9 @@ mod names;
 
 ghost use mathlib.Core.Path.{_≡_};
 ghost use Prim.Native.Nat.{suc};
-ghost use lib.ListN.{length, replicate};
-ghost use Rattle.scene.specs.HouseRules.{zeroReal};
 ghost use Rattle.comparison.specs.Both.{ReadsBoth};
-ghost use Rattle.comparison.specs.Hand.{Comes, Hands, keyIn, lesserOf, standing};
+ghost use Rattle.comparison.specs.Hand.{heldIn, keyIn, lesserOf, nextLine, rowsAt, stepAt, stepFor};
+ghost use Rattle.comparison.specs.Key.{keyAt};
 ghost use Rattle.comparison.specs.Next.{firstOf, leastAbove, lesser, nextKey};
 ghost use Rattle.comparison.specs.Rows.{rowsIn};
 ghost use Rattle.comparison.specs.Scan.{nthOf};
@@ -51,27 +50,6 @@ enum Step {
     Line(Place, usize, State),
 }
 
-// The reader's own clearing is private to it.
-fn clear_records(records: &mut [u32])
-    ensures { λ _. ⌜ now (records .exit) ≡ replicate (length (now (records .entry))) 0 ⌝ }
-{
-    let mut i = 0;
-    while i < records.len() {
-        records[i] = 0;
-        i += 1;
-    }
-}
-
-fn clear_reals(reals: &mut [f64])
-    ensures { λ _. ⌜ now (reals .exit) ≡ replicate (length (now (reals .entry))) zeroReal ⌝ }
-{
-    let mut i = 0;
-    while i < reals.len() {
-        reals[i] = 0.0;
-        i += 1;
-    }
-}
-
 // Reads both texts afresh, the left one first. A refusal leaves all four tables zero.
 pub fn read_both(
     left: &[u8],
@@ -85,14 +63,12 @@ pub fn read_both(
 {
     match reader::read(left, left_records, left_reals) {
         Answer::Refused(reason, place) => {
-            clear_records(right_records);
-            clear_reals(right_reals);
+            reader::clear(right_records, right_reals);
             Both::Refused(Side::Left, reason, place)
         }
         Answer::Accepted(m, j) => match reader::read(right, right_records, right_reals) {
             Answer::Refused(reason, place) => {
-                clear_records(left_records);
-                clear_reals(left_reals);
+                reader::clear(left_records, left_reals);
                 Both::Refused(Side::Right, reason, place)
             }
             Answer::Accepted(n, k) => Both::Read(m, j, n, k),
@@ -113,7 +89,7 @@ fn at_key(
     name: &[u8],
     above: usize,
 ) -> Step
-    ensures { λ r. ⌜ Comes (rowsIn (now (left .entry)) (now («left_records» .entry)) (now («left_reals» .entry)) «left_count») (rowsIn (now (right .entry)) (now («right_records» .entry)) (now («right_reals» .entry)) «right_count») (standing (rowsIn (now (left .entry)) (now («left_records» .entry)) (now («left_reals» .entry)) «left_count») (rowsIn (now (right .entry)) (now («right_records» .entry)) (now («right_reals» .entry)) «right_count») (nthOf (now (name .entry)) (suc above))) r ⌝ }
+    ensures { λ answer. ⌜ (let l = rowsIn (now (left .entry)) (now («left_records» .entry)) (now («left_reals» .entry)) «left_count» in let r = rowsIn (now (right .entry)) (now («right_records» .entry)) (now («right_reals» .entry)) «right_count» in answer ≡ stepAt l r (nthOf (now (name .entry)) (suc above))) ⌝ }
 {
     let m = names::numbered(left, left_records, left_count, name, above);
     let n = names::numbered(right, right_records, right_count, name, above);
@@ -143,98 +119,78 @@ fn at_key(
     Step::Line(Place::Left(m), above + 1, State::Changed)
 }
 
-// Of number m in the left scene and n in the right one, the one with the lesser name; the other where one is 0.
-fn lesser(
-    left: &[u8],
+// Of the names of number m in the left scene and n in the right one, the lesser; the other where one is 0.
+fn lesser<'a>(
+    left: &'a [u8],
     left_records: &[u32],
     m: usize,
-    right: &[u8],
+    right: &'a [u8],
     right_records: &[u32],
     n: usize,
-) -> Place
-    ensures { λ r. ⌜ r ≡ lesserOf (now (left .entry)) (now («left_records» .entry)) m (now (right .entry)) (now («right_records» .entry)) n ⌝ }
+) -> &'a [u8]
+    ensures { λ r. ⌜ now r ≡ lesserOf (now (left .entry)) (now («left_records» .entry)) m (now (right .entry)) (now («right_records» .entry)) n ⌝ }
 {
-    if m == 0 {
-        return Place::Right(n);
-    }
-    if n == 0 {
-        return Place::Left(m);
-    }
     let first = names::name_of(left, left_records, m);
     let second = names::name_of(right, right_records, n);
-    if names::lower(second, first) {
-        return Place::Right(n);
+    if m == 0 {
+        return second;
     }
-    Place::Left(m)
+    if n == 0 {
+        return first;
+    }
+    if names::lower(second, first) {
+        return second;
+    }
+    first
 }
 
 // What the first key comes to of the least name above a name.
-fn next_name(
-    left: &[u8],
+fn next_name<'a>(
+    left: &'a [u8],
     left_records: &[u32],
     left_count: usize,
     left_reals: &[f64],
-    right: &[u8],
+    right: &'a [u8],
     right_records: &[u32],
     right_count: usize,
     right_reals: &[f64],
     name: &[u8],
 ) -> Step
-    ensures { λ r. ⌜ Comes (rowsIn (now (left .entry)) (now («left_records» .entry)) (now («left_reals» .entry)) «left_count») (rowsIn (now (right .entry)) (now («right_records» .entry)) (now («right_reals» .entry)) «right_count») (firstOf (lesser (leastAbove (now (name .entry)) (rowsIn (now (left .entry)) (now («left_records» .entry)) (now («left_reals» .entry)) «left_count»)) (leastAbove (now (name .entry)) (rowsIn (now (right .entry)) (now («right_records» .entry)) (now («right_reals» .entry)) «right_count»)))) r ⌝ }
+    ensures { λ answer. ⌜ (let l = rowsIn (now (left .entry)) (now («left_records» .entry)) (now («left_reals» .entry)) «left_count» in let r = rowsIn (now (right .entry)) (now («right_records» .entry)) (now («right_reals» .entry)) «right_count» in answer ≡ stepFor l r (firstOf (lesser (leastAbove (now (name .entry)) l) (leastAbove (now (name .entry)) r)))) ⌝ }
 {
     let m = names::least_above(left, left_records, left_count, name);
     let n = names::least_above(right, right_records, right_count, name);
-    match lesser(left, left_records, m, right, right_records, n) {
-        Place::Left(k) => {
-            let first = names::name_of(left, left_records, k);
-            at_key(
-                left,
-                left_records,
-                left_count,
-                left_reals,
-                right,
-                right_records,
-                right_count,
-                right_reals,
-                first,
-                0,
-            )
-        }
-        Place::Right(k) => {
-            if k == 0 {
-                return Step::End;
-            }
-            let first = names::name_of(right, right_records, k);
-            at_key(
-                left,
-                left_records,
-                left_count,
-                left_reals,
-                right,
-                right_records,
-                right_count,
-                right_reals,
-                first,
-                0,
-            )
-        }
+    if (m == 0) & (n == 0) {
+        return Step::End;
     }
+    at_key(
+        left,
+        left_records,
+        left_count,
+        left_reals,
+        right,
+        right_records,
+        right_count,
+        right_reals,
+        lesser(left, left_records, m, right, right_records, n),
+        0,
+    )
 }
 
 // What the key comes to that follows the nth of a name.
-fn next_key(
-    left: &[u8],
+fn next_key<'a>(
+    left: &'a [u8],
     left_records: &[u32],
     left_count: usize,
     left_reals: &[f64],
-    right: &[u8],
+    right: &'a [u8],
     right_records: &[u32],
     right_count: usize,
     right_reals: &[f64],
     name: &[u8],
     nth: usize,
 ) -> Step
-    ensures { λ r. ⌜ Comes (rowsIn (now (left .entry)) (now («left_records» .entry)) (now («left_reals» .entry)) «left_count») (rowsIn (now (right .entry)) (now («right_records» .entry)) (now («right_reals» .entry)) «right_count») (nextKey (rowsIn (now (left .entry)) (now («left_records» .entry)) (now («left_reals» .entry)) «left_count») (rowsIn (now (right .entry)) (now («right_records» .entry)) (now («right_reals» .entry)) «right_count») (nthOf (now (name .entry)) nth)) r ⌝ }
+    ensures { λ answer. ⌜ (let l = rowsIn (now (left .entry)) (now («left_records» .entry)) (now («left_reals» .entry)) «left_count» in let r = rowsIn (now (right .entry)) (now («right_records» .entry)) (now («right_reals» .entry)) «right_count» in answer ≡ stepFor l r (nextKey l r (nthOf (now (name .entry)) nth))) ⌝ }
 {
     match at_key(
         left,
@@ -264,71 +220,93 @@ fn next_key(
     }
 }
 
-// What the key comes to that follows the one held.
-fn next_step(
+// A place, of which a number above its scene's count stands for no primitive.
+fn held(place: Place, left_count: usize, right_count: usize) -> Place
+    ensures { λ r. ⌜ r ≡ heldIn «left_count» «right_count» place ⌝ }
+{
+    match place {
+        Place::Left(k) => Place::Left(names::within(k, left_count)),
+        Place::Right(k) => Place::Right(names::within(k, right_count)),
+    }
+}
+
+// The name in the key of a place.
+fn held_name<'a>(
+    left: &'a [u8],
+    left_records: &[u32],
+    right: &'a [u8],
+    right_records: &[u32],
+    place: Place,
+) -> &'a [u8]
+    ensures { λ r. ⌜ now r ≡ keyAt (rowsAt (now (left .entry)) (now («left_records» .entry)) (now (right .entry)) (now («right_records» .entry)) place) .name ⌝ }
+{
+    match place {
+        Place::Left(n) => names::key_name(left, left_records, n),
+        Place::Right(n) => names::key_name(right, right_records, n),
+    }
+}
+
+// Which definition of its name a place is, from 1; 0 for none.
+fn held_nth(
     left: &[u8],
+    left_records: &[u32],
+    right: &[u8],
+    right_records: &[u32],
+    place: Place,
+) -> usize
+    ensures { λ r. ⌜ r ≡ keyAt (rowsAt (now (left .entry)) (now («left_records» .entry)) (now (right .entry)) (now («right_records» .entry)) place) .nth ⌝ }
+{
+    match place {
+        Place::Left(n) => names::key_nth(left, left_records, n),
+        Place::Right(n) => names::key_nth(right, right_records, n),
+    }
+}
+
+// What the key comes to that follows the one held.
+fn next_step<'a>(
+    left: &'a [u8],
     left_records: &[u32],
     left_count: usize,
     left_reals: &[f64],
-    right: &[u8],
+    right: &'a [u8],
     right_records: &[u32],
     right_count: usize,
     right_reals: &[f64],
     from: Place,
 ) -> Step
-    ensures { λ r. ⌜ Comes (rowsIn (now (left .entry)) (now («left_records» .entry)) (now («left_reals» .entry)) «left_count») (rowsIn (now (right .entry)) (now («right_records» .entry)) (now («right_reals» .entry)) «right_count») (nextKey (rowsIn (now (left .entry)) (now («left_records» .entry)) (now («left_reals» .entry)) «left_count») (rowsIn (now (right .entry)) (now («right_records» .entry)) (now («right_reals» .entry)) «right_count») (keyIn (rowsIn (now (left .entry)) (now («left_records» .entry)) (now («left_reals» .entry)) «left_count») (rowsIn (now (right .entry)) (now («right_records» .entry)) (now («right_reals» .entry)) «right_count») from)) r ⌝ }
+    ensures { λ answer. ⌜ (let l = rowsIn (now (left .entry)) (now («left_records» .entry)) (now («left_reals» .entry)) «left_count» in let r = rowsIn (now (right .entry)) (now («right_records» .entry)) (now («right_reals» .entry)) «right_count» in answer ≡ stepFor l r (nextKey l r (keyIn l r from))) ⌝ }
 {
-    match from {
-        Place::Left(k) => {
-            let n = names::within(k, left_count);
-            let name = names::key_name(left, left_records, n);
-            let nth = names::key_nth(left, left_records, n);
-            next_key(
-                left,
-                left_records,
-                left_count,
-                left_reals,
-                right,
-                right_records,
-                right_count,
-                right_reals,
-                name,
-                nth,
-            )
-        }
-        Place::Right(k) => {
-            let n = names::within(k, right_count);
-            let name = names::key_name(right, right_records, n);
-            let nth = names::key_nth(right, right_records, n);
-            next_key(
-                left,
-                left_records,
-                left_count,
-                left_reals,
-                right,
-                right_records,
-                right_count,
-                right_reals,
-                name,
-                nth,
-            )
-        }
-    }
+    let place = held(from, left_count, right_count);
+    let name = held_name(left, left_records, right, right_records, place);
+    let nth = held_nth(left, left_records, right, right_records, place);
+    next_key(
+        left,
+        left_records,
+        left_count,
+        left_reals,
+        right,
+        right_records,
+        right_count,
+        right_reals,
+        name,
+        nth,
+    )
 }
 
-// The next line after the key held: keys that are the same in both scenes have none.
-pub fn next_line(
-    left: &[u8],
+// The next line after the key held: keys that are the same in both scenes have none. Both texts have one lifetime, as a name
+// of either is looked for in both.
+pub fn next_line<'a>(
+    left: &'a [u8],
     left_records: &[u32],
     left_count: usize,
     left_reals: &[f64],
-    right: &[u8],
+    right: &'a [u8],
     right_records: &[u32],
     right_count: usize,
     right_reals: &[f64],
     from: Place,
 ) -> Next
-    ensures { λ r. ⌜ Hands (rowsIn (now (left .entry)) (now («left_records» .entry)) (now («left_reals» .entry)) «left_count») (rowsIn (now (right .entry)) (now («right_records» .entry)) (now («right_reals» .entry)) «right_count») (keyIn (rowsIn (now (left .entry)) (now («left_records» .entry)) (now («left_reals» .entry)) «left_count») (rowsIn (now (right .entry)) (now («right_records» .entry)) (now («right_reals» .entry)) «right_count») from) r ⌝ }
+    ensures { λ answer. ⌜ (let l = rowsIn (now (left .entry)) (now («left_records» .entry)) (now («left_reals» .entry)) «left_count» in let r = rowsIn (now (right .entry)) (now («right_records» .entry)) (now («right_reals» .entry)) «right_count» in answer ≡ nextLine l r (keyIn l r from)) ⌝ }
 {
     let mut at = from;
     loop {

@@ -10,23 +10,14 @@ ghost use Rattle.scene.specs.Record.{fieldIn};
 ghost use Rattle.comparison.specs.Key.{found, keyAt, lower, sameKey, times};
 ghost use Rattle.comparison.specs.Rows.{rowsIn};
 ghost use Rattle.comparison.specs.Scan.{LeastIn, better, nameAt, nthOf};
-
-// Of a record's numbers: name's place, name's length.
-const NAME: usize = 3;
-
-const NAME_LENGTH: usize = 4;
-
-fn wide(n: u32) -> usize
-    ensures { λ r. ⌜ r ≡ n ⌝ }
-{
-    n as usize
-}
+use finish::NAME;
+use finish::NAME_LENGTH;
 
 // Number k, from 0, of record n, from 1; 0 where the table has none.
 pub fn number(records: &[u32], n: usize, k: usize) -> usize
     ensures { λ r. ⌜ r ≡ fieldIn (now (records .entry)) n k ⌝ }
 {
-    wide(finish::field(records, n, k))
+    finish::field(records, n, k) as usize
 }
 
 // Whether name a comes before name b: the first byte that differs decides, and a prefix comes first.

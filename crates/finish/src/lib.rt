@@ -9,14 +9,27 @@ ghost use Rattle.scene.specs.Record.{fieldIn};
 // How many numbers a record has.
 const WIDTH: usize = 10;
 
-// Of a record's numbers: type, modifier link, name's place, name's length.
-const KIND: usize = 0;
+// A record's numbers, in their order: type, modifier link, alias target, name's place and length, first string's place and string
+// count, first real's index and real count, the next of the same name.
+pub const KIND: usize = 0;
 
-const MODIFIER: usize = 1;
+pub const MODIFIER: usize = 1;
 
-const NAME: usize = 3;
+pub const TARGET: usize = 2;
 
-const NAME_LENGTH: usize = 4;
+pub const NAME: usize = 3;
+
+pub const NAME_LENGTH: usize = 4;
+
+pub const STRING: usize = 5;
+
+pub const STRINGS: usize = 6;
+
+pub const REAL: usize = 7;
+
+pub const REALS: usize = 8;
+
+pub const NEXT: usize = 9;
 
 // A material's number, or 0, and the links followed; or a refusal's number and its count.
 pub enum Finish {

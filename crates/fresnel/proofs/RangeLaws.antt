@@ -1,21 +1,19 @@
 -- Every coefficient lies from 0 to 1, by monotone rounding alone.
 use mathlib.Core.Bool.{Bool, true, false, not, cond, _&&_}
-use mathlib.Core.Path.{_≡_, refl, sym, ap, _∙_, subst}
-use Prim.Native.Nat.{ℕ, zero, suc, _*_, _<_}
-use native.Mathlib.Nat.{mul-pos, zero-lt-suc, lt-irrefl}
-use lib.Dec.{T, eqb}
-use lib.Ieee.{Float, nan, inf, fin, binary64, unlike, up, odd, add, sub, mul, div, lt, le}
-use lib.Ieee.Fits.{up-pos, and-l, and-r}
+use mathlib.Core.Path.{_≡_, sym, ap, _∙_, subst}
+use Prim.Native.Nat.{ℕ, zero, suc}
+use lib.Dec.{T}
+use lib.Ieee.{Float, nan, inf, fin, binary64, odd, add, sub, mul, div, lt, le}
+use lib.Ieee.Fits.{and-l, and-r}
 use lib.Ieee.Positive.{num}
 use lib.Ieee.Scale.{finite}
-use lib.IntN.{ℤ}
-use Rattle.steps.specs.Step.{step, _⊕_, _⊖_, _⊗_, _⊘_, +0, +1, half}
+use Rattle.steps.specs.Step.{step, _⊕_, _⊗_, _⊘_, +0, +1, half}
 use Rattle.steps.proofs.StepLaws.{step-finite, add-finite, mul-finite, div-finite}
 use Rattle.steps.proofs.SignLaws.{NonNeg, nonneg-step, nonneg-mul, nonneg-div, nonneg-le, nonneg-lt}
 use Rattle.steps.proofs.SizeLaws.{difference, quotient}
 use Rattle.steps.proofs.RangeLaws.{UpTo, square, mean, in-order}
 use Rattle.root.specs.Root.{rootOf, rootUnits}
-use Rattle.fresnel.specs.Fresnel.{coefficient, fresnelOf, reflected, remainder}
+use Rattle.fresnel.specs.Fresnel.{coefficient, fresnelOf, reflected, cos2Squared}
 use Rattle.fresnel.specs.Outcome.{Outcome, coefficients, total, refused}
 use Rattle.fresnel.specs.Range.{AllInRange, InRange}
 
@@ -91,7 +89,7 @@ fresnel-range cos1 n1 n2 =
     past (finite u) _ 20 (λ g. below (lt u +0) (inside r))))
   where
     u : Float
-    u = remainder cos1 n1 n2
+    u = cos2Squared cos1 n1 n2
 
     below : (b : Bool) → AllInRange (reflected cos1 n1 n2 (step (rootOf u))) → AllInRange (cond b total (reflected cos1 n1 n2 (step (rootOf u))))
     below true h = tt

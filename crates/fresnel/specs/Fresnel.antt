@@ -7,8 +7,8 @@ use Rattle.root.specs.Root.{rootOf}
 use Rattle.fresnel.specs.Outcome.{Outcome, coefficients, total, refused}
 
 -- "k=n1/n2, t=(k·k)·(1-cos1·cos1), u=1-t"
-unfoldable pub remainder : (cos1 n1 n2 : Float) → Float
-remainder cos1 n1 n2 =
+unfoldable pub cos2Squared : (cos1 n1 n2 : Float) → Float
+cos2Squared cos1 n1 n2 =
     let k = n1 ⊘ n2 in
     let t = k ⊗ k ⊗ (+1 ⊖ cos1 ⊗ cos1) in
     +1 ⊖ t
@@ -28,7 +28,7 @@ reflected cos1 n1 n2 cos2 =
 -- "Inputs are tested first, 20 before 21"; "u below 0 answers total reflection. cos2=root u"
 unfoldable pub fresnelOf : (cos1 n1 n2 : Float) → Outcome
 fresnelOf cos1 n1 n2 =
-    let u = remainder cos1 n1 n2 in
+    let u = cos2Squared cos1 n1 n2 in
     cond (not (finite cos1 && finite n1 && finite n2)) (refused 20)
     (cond (not (le +0 cos1 && le cos1 +1 && lt +0 n1 && lt +0 n2)) (refused 21)
     (cond (not (finite u)) (refused 20)

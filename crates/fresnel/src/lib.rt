@@ -4,7 +4,7 @@ use steps::is_finite;
 use steps::step;
 ghost use mathlib.Core.Path.{_≡_};
 ghost use Rattle.steps.specs.Step.{_⊕_, _⊗_, half};
-ghost use Rattle.fresnel.specs.Fresnel.{coefficient, fresnelOf, reflected, remainder};
+ghost use Rattle.fresnel.specs.Fresnel.{coefficient, cos2Squared, fresnelOf, reflected};
 ghost use Rattle.fresnel.specs.Outcome.{outcomeOf};
 
 // FTE, FTM and F; total reflection; or a refusal's number.
@@ -15,8 +15,8 @@ pub enum Reflection {
 }
 
 // The square of the second angle's cosine.
-fn remainder(cos1: f64, n1: f64, n2: f64) -> f64
-    ensures { λ r. ⌜ r ≡ remainder cos1 n1 n2 ⌝ }
+fn cos2_squared(cos1: f64, n1: f64, n2: f64) -> f64
+    ensures { λ r. ⌜ r ≡ cos2Squared cos1 n1 n2 ⌝ }
 {
     let k = step(n1 / n2);
     let s = step(1.0 - step(cos1 * cos1));
@@ -59,7 +59,7 @@ pub fn fresnel(cos1: f64, n1: f64, n2: f64) -> Reflection
     if !((0.0 <= cos1) & (cos1 <= 1.0) & (0.0 < n1) & (0.0 < n2)) {
         return Reflection::Refused(21);
     }
-    let u = remainder(cos1, n1, n2);
+    let u = cos2_squared(cos1, n1, n2);
     if !is_finite(u) {
         return Reflection::Refused(20);
     }

@@ -1,5 +1,7 @@
 // The entry points for host programs, under C's calling convention: numbers, slices and small arrays, no precondition.
 use finish::Finish;
+use finish::NAME;
+use finish::NAME_LENGTH;
 use fresnel::Reflection;
 use hits::Hit;
 use hits::Ray;
@@ -16,11 +18,6 @@ ghost use Rattle.hits.specs.Ring.{ringHit};
 ghost use Rattle.hits.specs.Sphere.{sphereHit};
 ghost use Rattle.kribbelsteen.specs.Host.{HostReads, finishReason, finishValues, hitKind, hitValues, namePart, rayIn, reflectionKind, reflectionValues, ringIn, sphereIn, wordValues};
 ghost use Rattle.root.specs.Root.{rootOf};
-
-// Of a record's numbers: name's place, name's length.
-const NAME: usize = 3;
-
-const NAME_LENGTH: usize = 4;
 
 // Reads a scene: the reason or 0, and place, primitives, reals.
 #[no_mangle]

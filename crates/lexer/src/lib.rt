@@ -377,7 +377,8 @@ pub fn past_word(text: &[u8], at: usize) -> usize
     word.place + word.len
 }
 
-fn least(a: usize, b: usize) -> usize
+// The lesser of two lengths.
+pub fn least(a: usize, b: usize) -> usize
     ensures { λ r. ⌜ r ≡ min a b ⌝ }
 {
     if a < b { a } else { b }

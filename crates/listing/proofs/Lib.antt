@@ -1,3 +1,1 @@
-pub mod DecimalLaws
-pub mod PutLaws
 pub mod SampleLaws

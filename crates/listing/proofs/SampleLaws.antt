@@ -3,8 +3,9 @@ use mathlib.Core.List.{List, [], _∷_}
 use mathlib.Core.Path.{_≡_, refl}
 use Prim.Native.Nat.{ℕ}
 use Rattle.laws.specs.Bytes.{bytes}
-use Rattle.listing.specs.Listing.{digits, decimal, headLine, lineOf, rowLine}
-use Rattle.listing.specs.Put.{put}
+use Rattle.buffer.specs.Decimal.{digits, decimal}
+use Rattle.listing.specs.Listing.{headLine, lineOf, rowLine}
+use Rattle.buffer.specs.Put.{put}
 use Rattle.scene.specs.Record.{fieldIn}
 use Rattle.scene.specs.Types.{kindOf, typeName}
 

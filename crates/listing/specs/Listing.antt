@@ -1,23 +1,13 @@
 -- The lines of a listing.
 use mathlib.Core.Bool.{cond}
-use mathlib.Core.List.{List, [], _∷_, _++_}
-use Prim.Native.Nat.{ℕ, zero, suc, _+_, _/_, _%_}
+use mathlib.Core.List.{List, _++_}
+use Prim.Native.Nat.{ℕ}
 use Prim.Native.String.{String}
 use lib.Dec.{eqb}
-use Rattle.laws.specs.Bytes.{Bytes, byte, bytes, part}
+use Rattle.buffer.specs.Decimal.{decimal}
+use Rattle.laws.specs.Bytes.{Bytes, bytes, part}
 use Rattle.scene.specs.Record.{fieldIn, Answer}
 use Rattle.scene.specs.Types.{typeName}
-
--- the last k digits of a number in base ten, without leading zeros
-unfoldable pub digits : ℕ → ℕ → Bytes
-digits zero n = []
-digits (suc k) zero = []
-digits (suc k) (suc n) = digits k (suc n / 10) ++ ((byte "0" + suc n % 10) ∷ [])
-
--- a number in base ten. It has no more digits than it counts
-unfoldable pub decimal : ℕ → Bytes
-decimal zero = bytes "0"
-decimal (suc n) = digits (suc n) (suc n)
 
 -- a number behind its label
 abbrev pub field : String → ℕ → Bytes

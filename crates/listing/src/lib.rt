@@ -1,15 +1,14 @@
 // The lines of a listing, put into a lent buffer.
-mod buffer;
-
 use buffer::put_bytes;
 use buffer::put_field;
 ghost use mathlib.Core.List.{_++_};
 ghost use mathlib.Core.Path.{_≡_};
-ghost use Prim.Native.Nat.{_≤_, min};
+ghost use Prim.Native.Nat.{min};
 ghost use lib.ListN.{length};
 ghost use Rattle.laws.specs.Bytes.{bytes};
-ghost use Rattle.listing.specs.Listing.{decimal, finishLine, headLine, lineOf, linksOf, rowLine, surfaceOf};
-ghost use Rattle.listing.specs.Put.{put, behind};
+ghost use Rattle.buffer.specs.Decimal.{decimal};
+ghost use Rattle.listing.specs.Listing.{finishLine, headLine, lineOf, linksOf, rowLine, surfaceOf};
+ghost use Rattle.buffer.specs.Put.{put, behind};
 ghost use Rattle.scene.specs.Types.{typeName};
 
 // The first line of a listing, as much of it as the buffer holds. Answers how many bytes that is.
@@ -47,17 +46,17 @@ pub fn row_line(out: &mut [u8], text: &[u8], records: &[u32], n: usize) -> usize
 {
     let name = lexer::part(
         text,
-        finish::field(records, n, 3) as usize,
-        finish::field(records, n, 4) as usize,
+        finish::field(records, n, finish::NAME) as usize,
+        finish::field(records, n, finish::NAME_LENGTH) as usize,
     );
     put_line(
         out,
         n,
-        finish::field(records, n, 1),
-        finish::field(records, n, 2),
-        finish::field(records, n, 0),
+        finish::field(records, n, finish::MODIFIER),
+        finish::field(records, n, finish::TARGET),
+        finish::field(records, n, finish::KIND),
         name,
-        finish::field(records, n, 9),
+        finish::field(records, n, finish::NEXT),
     )
 }
 
@@ -94,7 +93,6 @@ fn put_links(out: &mut [u8], n: usize, modifier: u32, target: u32, kind: u32) ->
 }
 
 fn put_type_name(out: &mut [u8], at: usize, t: u32) -> usize
-    requires { ⌜ at ≤ length (now out) ⌝ }
     ensures { λ _. ⌜ now (out .exit) ≡ put (now (out .entry)) at (typeName t) ⌝ }
     ensures { λ r. ⌜ r ≡ behind (now (out .entry)) at (typeName t) ⌝ }
 {

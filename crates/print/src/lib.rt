@@ -36,7 +36,7 @@ fn print_row(text: &[u8], records: &[u32], n: usize) {
 
 // The line of a surface; nothing for other types. No walk needs more links than there are primitives.
 fn print_finish(text: &[u8], records: &[u32], count: usize, n: usize) {
-    let kind = finish::field(records, n, 0);
+    let kind = finish::field(records, n, finish::KIND);
     if (kind == 0) | (9 < kind) {
         return;
     }

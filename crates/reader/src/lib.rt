@@ -5,7 +5,9 @@ mod steps;
 mod table;
 
 ghost use mathlib.Core.Path.{_≡_};
-ghost use Prim.Native.Nat.{_+_, min};
+ghost use Prim.Native.Nat.{_+_};
+ghost use lib.ListN.{length, replicate};
+ghost use Rattle.scene.specs.HouseRules.{zeroReal};
 ghost use Rattle.reader.specs.Answer.{Reads};
 ghost use Rattle.reader.specs.Entered.{Enters, enteredIn};
 ghost use Rattle.reader.specs.Goes.{Stepped};
@@ -183,26 +185,29 @@ fn run(text: &[u8], records: &mut [u32], reals: &mut [f64], room: Room) -> Answe
     }
 }
 
-fn least(a: usize, b: usize) -> usize
-    ensures { λ r. ⌜ r ≡ min a b ⌝ }
-{
-    if a < b { a } else { b }
-}
-
 fn room_of(records: usize, reals: usize) -> Room
     ensures { λ r. ⌜ r ≡ roomIn records reals ⌝ }
 {
     Room {
-        records: least(1024, records / 10),
-        reals: least(4096, reals),
+        records: lexer::least(1024, records / 10),
+        reals: lexer::least(4096, reals),
     }
+}
+
+// Zeroes both tables.
+pub fn clear(records: &mut [u32], reals: &mut [f64])
+    ensures { λ _. ⌜ now (records .exit) ≡ replicate (length (now (records .entry))) 0 ⌝ }
+    ensures { λ _. ⌜ now (reals .exit) ≡ replicate (length (now (reals .entry))) zeroReal ⌝ }
+{
+    table::clear_records(records);
+    table::clear_reals(reals);
 }
 
 // Reads a scene text into the lent tables.
 pub fn read(text: &[u8], records: &mut [u32], reals: &mut [f64]) -> Answer
     ensures { λ r. ⌜ Reads (now (text .entry)) (now (records .entry)) (now (reals .entry)) r (now (records .exit)) (now (reals .exit)) ⌝ }
 {
-    table::clear(records, reals);
+    clear(records, reals);
     if 65536 < text.len() {
         return Answer::Refused(1, 0);
     }
@@ -210,7 +215,7 @@ pub fn read(text: &[u8], records: &mut [u32], reals: &mut [f64]) -> Answer
     match run(text, records, reals, room) {
         Answer::Accepted(n, k) => Answer::Accepted(n, k),
         Answer::Refused(reason, place) => {
-            table::clear(records, reals);
+            clear(records, reals);
             Answer::Refused(reason, place)
         }
     }

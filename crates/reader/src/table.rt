@@ -16,7 +16,7 @@ use crate::state::Phase;
 use crate::state::Seen;
 use crate::state::State;
 
-fn clear_records(records: &mut [u32])
+pub fn clear_records(records: &mut [u32])
     ensures { λ _. ⌜ now (records .exit) ≡ replicate (length (now (records .entry))) 0 ⌝ }
 {
     let mut i = 0;
@@ -26,7 +26,7 @@ fn clear_records(records: &mut [u32])
     }
 }
 
-fn clear_reals(reals: &mut [f64])
+pub fn clear_reals(reals: &mut [f64])
     ensures { λ _. ⌜ now (reals .exit) ≡ replicate (length (now (reals .entry))) zeroReal ⌝ }
 {
     let mut i = 0;
@@ -34,14 +34,6 @@ fn clear_reals(reals: &mut [f64])
         reals[i] = 0.0;
         i += 1;
     }
-}
-
-pub fn clear(records: &mut [u32], reals: &mut [f64])
-    ensures { λ _. ⌜ now (records .exit) ≡ replicate (length (now (records .entry))) 0 ⌝ }
-    ensures { λ _. ⌜ now (reals .exit) ≡ replicate (length (now (reals .entry))) zeroReal ⌝ }
-{
-    clear_records(records);
-    clear_reals(reals);
 }
 
 fn narrow(n: usize) -> u32

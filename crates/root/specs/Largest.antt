@@ -1,5 +1,5 @@
 -- What makes a double the root of another: the characterisation that `rootOf` is shown to have.
-use Prim.Native.Nat.{ℕ, _*_, _≤_}
+use Prim.Native.Nat.{_*_, _≤_}
 use lib.Dec.{T}
 use lib.Ieee.{Float, binary64, fits, le}
 use lib.Ieee.Positive.{num, den}

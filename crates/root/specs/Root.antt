@@ -3,7 +3,6 @@ use mathlib.Core.Bool.{false, cond}
 use Prim.Native.Nat.{ℕ, zero, suc, _+_, _-_, _*_, _/_, _^_}
 use lib.Dec.{leb}
 use lib.Ieee.{Float, nan, inf, fin, up, down, size, odd}
-use lib.IntN.{pos}
 use Rattle.steps.specs.Step.{+0}
 
 -- the whole root of an n below 4 ^ k, its k binary digits one after the other

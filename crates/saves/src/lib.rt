@@ -61,12 +61,12 @@ fn print_line(text: &[u8], records: &[u32], count: usize, number: usize, nth: us
 }
 
 // Prints the lines one by one. Each search goes on from the key of the line before.
-fn print_lines(
-    left: &[u8],
+fn print_lines<'a>(
+    left: &'a [u8],
     left_records: &[u32],
     left_count: usize,
     left_reals: &[f64],
-    right: &[u8],
+    right: &'a [u8],
     right_records: &[u32],
     right_count: usize,
     right_reals: &[f64],
@@ -101,7 +101,7 @@ fn print_lines(
 }
 
 // Compares two texts, and prints the lines or the refusal.
-fn compare(left: &[u8], right: &[u8]) {
+fn compare<'a>(left: &'a [u8], right: &'a [u8]) {
     let mut left_records = [0u32; 10240];
     let mut left_reals = [0.0f64; 4096];
     let mut right_records = [0u32; 10240];

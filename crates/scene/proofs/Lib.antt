@@ -6,7 +6,9 @@ pub mod RenumberLaws
 pub mod RoomLaws
 pub mod EdgeLaws
 pub mod WordsLaws
+pub mod KeptLaws
 pub mod PlaceLaws
+pub mod SpellingLaws
 pub mod IndependentLaws
 pub mod BlockLaws
 pub mod TellsLaws

@@ -153,11 +153,11 @@ first-or-none w (a ∷ later) d = go (firstLater w later (length d)) (first-or-n
 -- ---- the table of an accepted text
 
 -- a test that passes has found a definition
-modifier-defined : (o : Option Statement) → modifierTest o ≡ 0 → (t : Statement) × (o ≡ some t)
+pub modifier-defined : (o : Option Statement) → modifierTest o ≡ 0 → (t : Statement) × (o ≡ some t)
 modifier-defined none e = absurd (omega arith)
 modifier-defined (some t) e = (t, refl)
 
-target-defined : (o : Option Statement) → targetTest o ≡ 0 → (t : Statement) × (o ≡ some t)
+pub target-defined : (o : Option Statement) → targetTest o ≡ 0 → (t : Statement) × (o ≡ some t)
 target-defined none e = absurd (omega arith)
 target-defined (some t) e = (t, refl)
 

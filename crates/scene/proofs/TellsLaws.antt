@@ -13,8 +13,8 @@ use Rattle.laws.proofs.NatLaws.{le-or-lt}
 use Rattle.laws.specs.Bytes.{Bytes}
 use Rattle.scene.proofs.AcceptLaws.{read-inv}
 use Rattle.scene.proofs.BlockLaws.{statements-append}
-use Rattle.scene.proofs.PlaceLaws.{Says, Spelt, AllRead, all-read}
-use Rattle.scene.proofs.WordsLaws.{between, wordsIn, words-from}
+use Rattle.scene.proofs.KeptLaws.{each-tail}
+use Rattle.scene.proofs.PlaceLaws.{Says, Spelt, spelt-words, EntryRead, AllRead, all-read}
 use Rattle.scene.specs.Links.{gives, hits, realsUsed, realsAdded, resolve, through, bodyOf, typeIn, stringsIn, realsIn, ownBody, modifierLink, targetLink, firstLater, source}
 use Rattle.scene.specs.Reading.{Entry, statements, newline, accepted, read}
 use Rattle.scene.specs.Record.{unlessNone, firstReal, nothing, stringPlace, recordOf, recordsFrom, records, reals, realTable, nth}
@@ -120,8 +120,7 @@ source-reals (s ∷ x) D (y, h) = go (realsIn (s .body)) refl
 -- ---- the strings and the name
 
 pub read-tail : (c : Bytes) (y x : List Entry) → AllRead c (y ++ x) → AllRead c x
-read-tail c [] x h = h
-read-tail c (e ∷ y) x h = read-tail c y x (h .1)
+read-tail c y x h = each-tail EntryRead c y x h
 
 pub statements-length : (es : List Entry) → length (statements es) ≡ length es
 unfolding statements
@@ -178,7 +177,7 @@ tells-told text es l e x h q = λ i. record {
   target = targetLink (e .statement .body) (statements x);
   name = name-at text (e .places .name) (e .statement .name) (here .0 .name) i;
   stringCount = length (stringsIn (ownBody (e .statement .body) (statements x)));
-  strings = words-from text at (stringsIn (ownBody (e .statement .body) (statements x))) spelt i;
+  strings = spelt-words text at (stringsIn (ownBody (e .statement .body) (statements x))) spelt i;
   realCount = length (realsIn (ownBody (e .statement .body) (statements x)));
   reals = stored i;
   next = cond (gives (e .statement)) (firstLater (e .statement .name) (statements l) (suc (length (statements x)))) 0;
@@ -190,10 +189,8 @@ tells-told text es l e x h q = λ i. record {
     here : AllRead (text ++ newline) (e ∷ x)
     here = read-tail (text ++ newline) l (e ∷ x) (subst (AllRead (text ++ newline)) q h)
 
-    spelt : take (length (stringsIn (ownBody (e .statement .body) (statements x)))) (wordsIn between (drop at (text ++ newline))) ≡ stringsIn (ownBody (e .statement .body) (statements x))
-    spelt =
-        ap (λ (z : Bytes). take (length (stringsIn (ownBody (e .statement .body) (statements x)))) (wordsIn between (drop at z))) (sym (append-nil (text ++ newline)))
-        ∙ subst (λ (b : Body). Spelt (text ++ newline) at (stringsIn b)) (own (e .statement) (statements x)) (source-strings (text ++ newline) e x here) []
+    spelt : Spelt (text ++ newline) at (stringsIn (ownBody (e .statement .body) (statements x)))
+    spelt = subst (λ (b : Body). Spelt (text ++ newline) at (stringsIn b)) (own (e .statement) (statements x)) (source-strings (text ++ newline) e x here)
 
     stored : take (length (realsIn (ownBody (e .statement .body) (statements x)))) (drop (firstReal (source (e .statement) (statements x))) (realTable es)) ≡ realsIn (ownBody (e .statement .body) (statements x))
     stored = subst (λ (b : Body). take (length (realsIn b)) (drop (firstReal (source (e .statement) (statements x))) (realTable es)) ≡ realsIn b) (own (e .statement) (statements x)) (source-reals (source (e .statement) (statements x)) (statements es) (tail-trans (source (e .statement) (statements x)) (statements l) (statements es) (e .statement ∷ statements x) (ap statements q ∙ statements-append l (e ∷ x)) (source-tail (e .statement) (statements x))))

@@ -16,6 +16,10 @@ abbrev pub numbers : List Literal → List Float
 numbers [] = []
 numbers (l ∷ ls) = l .number ∷ numbers ls
 
+abbrev pub numeralWords : List Literal → List Bytes
+numeralWords [] = []
+numeralWords (l ∷ ls) = l .word ∷ numeralWords ls
+
 -- "A primitive is modifier, type, name, string count, that many words, integer count, real count, that many numerals.
 -- An alias is modifier, `alias`, name, target."
 pub data Body : Type 0 where

@@ -1,8 +1,9 @@
 -- `comparison::next_key` meets its contract.
 use mathlib.Core.List.{List}
+use mathlib.Core.Path.{refl, sym, _∙_}
 use borrow.Author.Needs.{needs}
 use Rattle.scene.specs.Told.{Told}
-use Rattle.comparison.proofs.HandLaws.{follows-none, follows-same, follows-line}
+use Rattle.comparison.proofs.HandLaws.{follows-none, follows-some}
 use Rattle.comparison.specs.Rows.{rowsIn}
 use Rattle.comparison.specs.Scan.{nthOf}
 use Rattle.comparison.proofs.next_key.Statement.{statement}
@@ -31,13 +32,13 @@ enum-known-p-2 : tie.Need-enum-known-p-2
 enum-known-p-2 c = search needs
 
 returns : tie.Need-returns
-returns c = follows-none (left-rows (c .before .before .before .before .before .before .before .before .before .before .before)) (right-rows (c .before .before .before .before .before .before .before .before .before .before .before)) (nthOf (c .before .before .before .before .before .before .before .before .before .before .before .args .name .now) (c .before .before .before .before .before .before .before .before .before .before .before .args .nth)) (rw (c .before .enum-told .given .1) at (c .before .before .before .at-key .ensures)) (c .next-name .result) (c .next-name .ensures)
+returns c = follows-none (left-rows (c .before .before .before .before .before .before .before .before .before .before .before)) (right-rows (c .before .before .before .before .before .before .before .before .before .before .before)) (nthOf (c .before .before .before .before .before .before .before .before .before .before .before .args .name .now) (c .before .before .before .before .before .before .before .before .before .before .before .args .nth)) _ (c .before .before .before .at-key .ensures) (c .before .enum-told .given .1) _ (c .next-name .ensures)
 
 returns-2 : tie.Need-returns-2
-returns-2 c = follows-same (left-rows (c .before .before .before .before .before .before .before .before .before .before .before)) (right-rows (c .before .before .before .before .before .before .before .before .before .before .before)) (nthOf (c .before .before .before .before .before .before .before .before .before .before .before .args .name .now) (c .before .before .before .before .before .before .before .before .before .before .before .args .nth)) (c .before .p .given .0 .0) (rw (c .before .p .given .1) at (c .before .before .before .at-key .ensures))
+returns-2 c = follows-some (left-rows (c .before .before .before .before .before .before .before .before .before .before .before)) (right-rows (c .before .before .before .before .before .before .before .before .before .before .before)) (nthOf (c .before .before .before .before .before .before .before .before .before .before .before .args .name .now) (c .before .before .before .before .before .before .before .before .before .before .before .args .nth)) _ (sym (c .before .p .given .1) ∙ c .before .before .before .at-key .ensures) refl
 
 returns-3 : tie.Need-returns-3
-returns-3 c = follows-line (left-rows (c .before .before .before .before .before .before .before .before .before .before .before)) (right-rows (c .before .before .before .before .before .before .before .before .before .before .before)) (nthOf (c .before .before .before .before .before .before .before .before .before .before .before .args .name .now) (c .before .before .before .before .before .before .before .before .before .before .before .args .nth)) _ _ _ (rw (c .before .p2 .given .1) at (c .before .before .before .at-key .ensures))
+returns-3 c = follows-some (left-rows (c .before .before .before .before .before .before .before .before .before .before .before)) (right-rows (c .before .before .before .before .before .before .before .before .before .before .before)) (nthOf (c .before .before .before .before .before .before .before .before .before .before .before .args .name .now) (c .before .before .before .before .before .before .before .before .before .before .before .args .nth)) _ (sym (c .before .p2 .given .1) ∙ c .before .before .before .at-key .ensures) refl
 
 pub next-key-spec : {M : Type 1} → statement M
 next-key-spec =

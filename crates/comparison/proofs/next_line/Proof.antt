@@ -1,11 +1,11 @@
 -- `comparison::next_line` meets its contract.
 use mathlib.Core.List.{List}
-use mathlib.Core.Path.{_≡_, refl, _∙_}
+use mathlib.Core.Path.{_≡_, refl, ap, sym, _∙_}
 use borrow.Author.Needs.{needs}
 use lib.ListN.{length}
 use Rattle.scene.specs.Told.{Told}
-use Rattle.comparison.proofs.HandLaws.{fewer, lines-first, lines-none, lines-same}
-use Rattle.comparison.specs.Hand.{keyIn, linesAfter}
+use Rattle.comparison.proofs.HandLaws.{answer-line, answer-none, fewer, lines-same}
+use Rattle.comparison.specs.Hand.{firstLine, keyIn, linesAfter}
 use Rattle.comparison.specs.Key.{keysOf}
 use Rattle.comparison.specs.Next.{after}
 use Rattle.comparison.specs.Rows.{rowsIn}
@@ -41,22 +41,22 @@ enum-told : tie.Need-enum-told Inv-loop μ-loop
 enum-told c = search needs
 
 returns : tie.Need-returns Inv-loop μ-loop
-returns c = c .before .before .before .loop .inv ∙ lines-none (left-rows (c .before .before .before .before .before .before .before .before .before .before)) (right-rows (c .before .before .before .before .before .before .before .before .before .before)) _ (rw (c .enum-told .given .1) at (c .before .before .next-step .ensures))
+returns c = answer-none (left-rows (c .before .before .before .before .before .before .before .before .before .before)) (right-rows (c .before .before .before .before .before .before .before .before .before .before)) _ (sym (c .enum-told .given .1) ∙ c .before .before .next-step .ensures) ∙ ap (firstLine (left-rows (c .before .before .before .before .before .before .before .before .before .before)) (right-rows (c .before .before .before .before .before .before .before .before .before .before))) (sym (c .before .before .before .loop .inv))
 
 enum-known-p : tie.Need-enum-known-p Inv-loop μ-loop
 enum-known-p c = search needs
 
 loop-less : tie.Need-loop-less Inv-loop μ-loop
-loop-less c = fewer (left-rows (c .before .before .before .before .before .before .before .before .before .before .before)) (right-rows (c .before .before .before .before .before .before .before .before .before .before .before)) _ (c .before .p .given .0 .0) (rw (c .before .p .given .1) at (c .before .before .before .next-step .ensures))
+loop-less c = fewer (left-rows (c .before .before .before .before .before .before .before .before .before .before .before)) (right-rows (c .before .before .before .before .before .before .before .before .before .before .before)) _ (c .before .p .given .0 .0) (sym (c .before .p .given .1) ∙ c .before .before .before .next-step .ensures)
 
 loop-again : tie.Need-loop-again Inv-loop μ-loop
-loop-again c = c .before .before .before .before .loop .inv ∙ lines-same (left-rows (c .before .before .before .before .before .before .before .before .before .before .before)) (right-rows (c .before .before .before .before .before .before .before .before .before .before .before)) _ (c .before .p .given .0 .0) (rw (c .before .p .given .1) at (c .before .before .before .next-step .ensures))
+loop-again c = c .before .before .before .before .loop .inv ∙ lines-same (left-rows (c .before .before .before .before .before .before .before .before .before .before .before)) (right-rows (c .before .before .before .before .before .before .before .before .before .before .before)) _ (c .before .p .given .0 .0) (sym (c .before .p .given .1) ∙ c .before .before .before .next-step .ensures)
 
 enum-known-p-2 : tie.Need-enum-known-p-2 Inv-loop μ-loop
 enum-known-p-2 c = search needs
 
 returns-2 : tie.Need-returns-2 Inv-loop μ-loop
-returns-2 c = lines-first (left-rows (c .before .before .before .before .before .before .before .before .before .before .before)) (right-rows (c .before .before .before .before .before .before .before .before .before .before .before)) _ _ _ _ _ (c .before .before .before .before .loop .inv) (rw (c .before .p2 .given .1) at (c .before .before .before .next-step .ensures))
+returns-2 c = answer-line (left-rows (c .before .before .before .before .before .before .before .before .before .before .before)) (right-rows (c .before .before .before .before .before .before .before .before .before .before .before)) _ _ _ _ (sym (c .before .p2 .given .1) ∙ c .before .before .before .next-step .ensures) ∙ ap (firstLine (left-rows (c .before .before .before .before .before .before .before .before .before .before .before)) (right-rows (c .before .before .before .before .before .before .before .before .before .before .before))) (sym (c .before .before .before .before .loop .inv))
 
 pub next-line-spec : {M : Type 1} → statement M
 next-line-spec =

@@ -13,13 +13,13 @@ use Rattle.fresnel.proofs.fresnel.Tie as tie
 by-calls : (c : tie.After-is-finite4) →
     let u = c .before in let a = u .before .before .before .before .before .before .args in
     fresnelOf (a .cos1) (a .n1) (a .n2) ≡
-    cond (not (c .is-finite4 .result)) (refused 20) (cond (lt (u .remainder .result) +0) total (reflected (a .cos1) (a .n1) (a .n2) (step (rootOf (u .remainder .result)))))
+    cond (not (c .is-finite4 .result)) (refused 20) (cond (lt (u .cos2-squared .result) +0) total (reflected (a .cos1) (a .n1) (a .n2) (step (rootOf (u .cos2-squared .result)))))
 unfolding fresnelOf ofBits
 by-calls c =
     let u = c .before in
     let i1 = u .before .before in
     let f3 = i1 .before in
-    simp (← f3 .before .before .is-finite .ensures, ← f3 .before .is-finite2 .ensures, ← f3 .is-finite3 .ensures, i1 .if1 .left, u .before .if2 .left, ← u .remainder .ensures, ← c .is-finite4 .ensures)
+    simp (← f3 .before .before .is-finite .ensures, ← f3 .before .is-finite2 .ensures, ← f3 .is-finite3 .ensures, i1 .if1 .left, u .before .if2 .left, ← u .cos2-squared .ensures, ← c .is-finite4 .ensures)
 
 returns : tie.Need-returns
 unfolding fresnelOf

@@ -1,7 +1,6 @@
 -- `kribbelsteen::kribbelsteen_finish` meets its contract.
-use mathlib.Core.List.{List, [], _∷_}
-use mathlib.Core.Path.{_≡_, sym, ap, _∙_}
-use Prim.Native.Nat.{ℕ}
+use mathlib.Core.List.{[], _∷_}
+use mathlib.Core.Path.{sym, ap, _∙_}
 use borrow.Author.Needs.{needs}
 use Rattle.finish.specs.Walk.{numbersOf}
 use Rattle.finish.specs.declared.Finish.{Finish}

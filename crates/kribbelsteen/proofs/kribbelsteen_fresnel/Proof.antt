@@ -1,9 +1,8 @@
 -- `kribbelsteen::kribbelsteen_fresnel` meets its contract.
-use mathlib.Core.Path.{_≡_, sym, ap, _∙_}
+use mathlib.Core.Path.{sym, ap, _∙_}
 use borrow.Author.Needs.{needs}
 use lib.Ieee.{ofBits}
-use Rattle.fresnel.specs.Outcome.{Outcome, outcomeOf}
-use Rattle.fresnel.specs.declared.Reflection.{Reflection}
+use Rattle.fresnel.specs.Outcome.{outcomeOf}
 use Rattle.kribbelsteen.specs.Host.{reflectionKind, reflectionValues}
 use Rattle.kribbelsteen.proofs.kribbelsteen_fresnel.Statement.{statement}
 use Rattle.kribbelsteen.proofs.kribbelsteen_fresnel.Tie as tie

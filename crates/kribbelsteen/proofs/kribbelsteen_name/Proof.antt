@@ -1,5 +1,5 @@
 -- `kribbelsteen::kribbelsteen_name` meets its contract.
-use mathlib.Core.Path.{_≡_, sym, ap, _∙_}
+use mathlib.Core.Path.{sym, _∙_}
 use borrow.Author.Needs.{needs}
 use Rattle.kribbelsteen.proofs.NameLaws.{part-refused, part-shown}
 use Rattle.scene.specs.Record.{fieldIn, recordIn}

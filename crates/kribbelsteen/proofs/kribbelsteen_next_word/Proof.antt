@@ -1,6 +1,6 @@
 -- `kribbelsteen::kribbelsteen_next_word` meets its contract.
 use mathlib.Core.List.{[], _∷_}
-use mathlib.Core.Path.{_≡_, ap}
+use mathlib.Core.Path.{ap}
 use Rattle.lexer.specs.declared.Word.{Word}
 use Rattle.kribbelsteen.proofs.kribbelsteen_next_word.Statement.{statement}
 use Rattle.kribbelsteen.proofs.kribbelsteen_next_word.Tie as tie

@@ -1,6 +1,6 @@
 -- `kribbelsteen::kribbelsteen_read` meets its contract.
 use mathlib.Core.List.{[], _∷_}
-use mathlib.Core.Path.{_≡_, sym, ap, _∙_}
+use mathlib.Core.Path.{sym, ap, _∙_}
 use borrow.Author.Needs.{needs}
 use Rattle.reader.specs.Answer.{numbersOf}
 use Rattle.scene.specs.Record.{Answer}

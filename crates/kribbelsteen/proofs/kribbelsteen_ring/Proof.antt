@@ -1,5 +1,5 @@
 -- `kribbelsteen::kribbelsteen_ring` meets its contract.
-use mathlib.Core.Path.{_≡_, ap, _∙_}
+use mathlib.Core.Path.{ap, _∙_}
 use Rattle.hits.specs.Ring.{ringHit}
 use Rattle.kribbelsteen.specs.Host.{hitKind, hitValues}
 use Rattle.kribbelsteen.proofs.kribbelsteen_ring.Statement.{statement}

@@ -1,5 +1,5 @@
 -- `kribbelsteen::kribbelsteen_sphere` meets its contract.
-use mathlib.Core.Path.{_≡_, ap, _∙_}
+use mathlib.Core.Path.{ap, _∙_}
 use Rattle.hits.specs.Sphere.{sphereHit}
 use Rattle.kribbelsteen.specs.Host.{hitKind, hitValues}
 use Rattle.kribbelsteen.proofs.kribbelsteen_sphere.Statement.{statement}

@@ -1,5 +1,5 @@
 -- `kribbelsteen::tell_hit` meets its contract.
-use mathlib.Core.Path.{_≡_, sym, ap}
+use mathlib.Core.Path.{sym, ap}
 use borrow.Author.Needs.{needs}
 use lib.Ieee.{ofBits}
 use Rattle.hits.specs.Outcome.{outcomeOf}

@@ -1,8 +1,7 @@
 -- `listing::finish_line` meets its contract.
-use native.Mathlib.Omega.{arith}
 use borrow.Author.Needs.{needs}
 use Rattle.laws.specs.Bytes.{bytes}
-use Rattle.listing.proofs.PutLaws.{shown, shown-more, count}
+use Rattle.buffer.proofs.PutLaws.{shown, shown-more, count}
 use Rattle.listing.specs.Listing.{field, finishLine}
 use Rattle.listing.proofs.finish_line.Statement.{statement}
 use Rattle.listing.proofs.finish_line.Tie as tie
@@ -43,7 +42,7 @@ same-length c = search needs
 returns : tie.Need-returns
 unfolding finishLine
 returns c =
-    let s = shown (omega arith) ((c .before .before .before .before .before .before .before .before .before .before .before .before .before .before .before .before .before .before .before .before .before .before .before .before .before .before .put-surface) .ensures .0) ((c .before .before .before .before .before .before .before .before .before .before .before .before .before .before .before .before .before .before .before .before .before .before .before .before .before .before .put-surface) .ensures .1) in
+    let s = shown ((c .before .before .before .before .before .before .before .before .before .before .before .before .before .before .before .before .before .before .before .before .before .before .before .before .before .before .put-surface) .ensures .0) ((c .before .before .before .before .before .before .before .before .before .before .before .before .before .before .before .before .before .before .before .before .before .before .before .before .before .before .put-surface) .ensures .1) in
     let t = shown-more (field " finish=" ((c .before .before .before .before .before .before .before .before .before .before .before .before .before .before .before .before .before .before .before .before .before .before .before .before .before .before .before .before .before .before .before .args) .finish)) s ((c .before .before .before .before .before .before .before .before .before .before .before .before .before .before .before .before .before .before .before .before .before .put-field) .ensures .0) ((c .before .before .before .before .before .before .before .before .before .before .before .before .before .before .before .before .before .before .before .before .before .put-field) .ensures .1) in
     let u = shown-more (bytes " finish_name=") t ((c .before .before .before .before .before .before .before .before .before .before .before .before .before .before .before .before .put-bytes) .ensures .0) ((c .before .before .before .before .before .before .before .before .before .before .before .before .before .before .before .before .put-bytes) .ensures .1) in
     let v = shown-more ((c .before .before .before .before .before .before .before .before .before .before .before .before .before .before .before .before .before .before .before .before .before .before .before .before .before .before .before .before .before .before .before .args) .material .now) u ((c .before .before .before .before .before .before .before .before .before .before .before .before .put-bytes2) .ensures .0) ((c .before .before .before .before .before .before .before .before .before .before .before .before .put-bytes2) .ensures .1) in

@@ -1,6 +1,5 @@
 -- `listing::put_line` meets its contract.
-use native.Mathlib.Omega.{arith}
-use Rattle.listing.proofs.PutLaws.{shown, shown-more, count}
+use Rattle.buffer.proofs.PutLaws.{shown, shown-more, count}
 use Rattle.laws.specs.Bytes.{bytes}
 use Rattle.listing.specs.Listing.{field, lineOf}
 use borrow.Author.Needs.{needs}
@@ -43,7 +42,7 @@ returns c =
     let second = third .before .before .before .before in
     let first = second .before .before .before .before .before in
     let a = first .before .before .before .before .args in
-    let s = shown (omega arith) (first .put-links .ensures .0) (first .put-links .ensures .1) in
+    let s = shown (first .put-links .ensures .0) (first .put-links .ensures .1) in
     let t = shown-more (bytes " name=") s (second .put-bytes .ensures .0) (second .put-bytes .ensures .1) in
     let u = shown-more (a .name .now) t (third .put-bytes2 .ensures .0) (third .put-bytes2 .ensures .1) in
     let v = shown-more (field " next=" (a .next)) u (fourth .put-field .ensures .0) (fourth .put-field .ensures .1) in

@@ -1,6 +1,5 @@
 -- `listing::put_links` meets its contract.
-use native.Mathlib.Omega.{arith}
-use Rattle.listing.proofs.PutLaws.{shown, shown-more}
+use Rattle.buffer.proofs.PutLaws.{shown, shown-more}
 use Rattle.laws.specs.Bytes.{bytes}
 use Rattle.listing.specs.Listing.{field}
 use Rattle.scene.specs.Types.{typeName}
@@ -46,7 +45,7 @@ returns c =
     let second = third .before .before .before .before .before in
     let first = second .before .before .before .before .before in
     let a = first .before .before .before .before .args in
-    let s = shown (omega arith) (first .put-field .ensures .0) (first .put-field .ensures .1) in
+    let s = shown (first .put-field .ensures .0) (first .put-field .ensures .1) in
     let t = shown-more (field " mod=" (a .modifier)) s (second .put-field2 .ensures .0) (second .put-field2 .ensures .1) in
     let u = shown-more (field " alias=" (a .target)) t (third .put-field3 .ensures .0) (third .put-field3 .ensures .1) in
     let v = shown-more (bytes " type=") u (fourth .put-bytes .ensures .0) (fourth .put-bytes .ensures .1) in

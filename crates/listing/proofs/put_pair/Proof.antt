@@ -1,9 +1,8 @@
 -- `listing::put_pair` meets its contract.
 use mathlib.Core.List.{_++_}
-use native.Mathlib.Omega.{arith}
-use Rattle.listing.proofs.PutLaws.{shown, shown-more, count}
+use Rattle.buffer.proofs.PutLaws.{shown, shown-more, count}
 use Rattle.laws.specs.Bytes.{bytes}
-use Rattle.listing.specs.Listing.{decimal}
+use Rattle.buffer.specs.Decimal.{decimal}
 use borrow.Author.Needs.{needs}
 use Rattle.listing.proofs.put_pair.Statement.{statement}
 use Rattle.listing.proofs.put_pair.Tie as tie
@@ -29,7 +28,7 @@ returns c =
     let second = third .before .before .before .before .before in
     let first = second .before .before .before .before in
     let a = first .before .before .before .before .before .args in
-    let s = shown (omega arith) (first .put-field .ensures .0) (first .put-field .ensures .1) in
+    let s = shown (first .put-field .ensures .0) (first .put-field .ensures .1) in
     let t = shown-more (a .second .now ++ decimal (a .m)) s (second .put-field2 .ensures .0) (second .put-field2 .ensures .1) in
     let u = shown-more (bytes "\n") t (third .put-bytes .ensures .0) (third .put-bytes .ensures .1) in
     (u .text, count u)

@@ -1,8 +1,7 @@
 -- `listing::put_surface` meets its contract.
-use native.Mathlib.Omega.{arith}
 use borrow.Author.Needs.{needs}
 use Rattle.laws.specs.Bytes.{bytes}
-use Rattle.listing.proofs.PutLaws.{shown, shown-more}
+use Rattle.buffer.proofs.PutLaws.{shown, shown-more}
 use Rattle.scene.specs.Types.{typeName}
 use Rattle.listing.proofs.put_surface.Statement.{statement}
 use Rattle.listing.proofs.put_surface.Tie as tie
@@ -36,7 +35,7 @@ same-length c = search needs
 
 returns : tie.Need-returns
 returns c =
-    let s = shown (omega arith) ((c .before .before .before .before .before .before .before .before .before .before .before .before .before .before .before .before .before .before .before .before .put-field) .ensures .0) ((c .before .before .before .before .before .before .before .before .before .before .before .before .before .before .before .before .before .before .before .before .put-field) .ensures .1) in
+    let s = shown ((c .before .before .before .before .before .before .before .before .before .before .before .before .before .before .before .before .before .before .before .before .put-field) .ensures .0) ((c .before .before .before .before .before .before .before .before .before .before .before .before .before .before .before .before .before .before .before .before .put-field) .ensures .1) in
     let t = shown-more (bytes " type=") s ((c .before .before .before .before .before .before .before .before .before .before .before .before .before .before .before .put-bytes) .ensures .0) ((c .before .before .before .before .before .before .before .before .before .before .before .before .before .before .before .put-bytes) .ensures .1) in
     let u = shown-more (typeName ((c .before .before .before .before .before .before .before .before .before .before .before .before .before .before .before .before .before .before .before .before .before .before .before .before .before .args) .kind)) t ((c .before .before .before .before .before .before .before .before .before .before .before .put-type-name) .ensures .0) ((c .before .before .before .before .before .before .before .before .before .before .before .put-type-name) .ensures .1) in
     let v = shown-more (bytes " name=") u ((c .before .before .before .before .before .before .put-bytes2) .ensures .0) ((c .before .before .before .before .before .before .put-bytes2) .ensures .1) in

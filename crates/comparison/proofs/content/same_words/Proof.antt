@@ -16,20 +16,20 @@ abbrev μ-loop : tie.MeasureT-loop
 loop-holds : tie.Need-loop-holds Inv-loop μ-loop
 loop-holds c = refl
 
-word-of-requires : tie.Need-word-of-requires Inv-loop μ-loop
-word-of-requires c κs = search needs
+word-bytes-requires : tie.Need-word-bytes-requires Inv-loop μ-loop
+word-bytes-requires c κs = search needs
 
-word-of-requires-2 : tie.Need-word-of-requires-2 Inv-loop μ-loop
-word-of-requires-2 c κs = search needs
+word-bytes-requires-2 : tie.Need-word-bytes-requires-2 Inv-loop μ-loop
+word-bytes-requires-2 c κs = search needs
 
 same-requires : tie.Need-same-requires Inv-loop μ-loop
 same-requires c κs = search needs
 
-behind-requires : tie.Need-behind-requires Inv-loop μ-loop
-behind-requires c κs = search needs
+past-word-requires : tie.Need-past-word-requires Inv-loop μ-loop
+past-word-requires c κs = search needs
 
-behind-requires-2 : tie.Need-behind-requires-2 Inv-loop μ-loop
-behind-requires-2 c κs = search needs
+past-word-requires-2 : tie.Need-past-word-requires-2 Inv-loop μ-loop
+past-word-requires-2 c κs = search needs
 
 sub-left : tie.Need-sub-left Inv-loop μ-loop
 sub-left c = search needs
@@ -38,10 +38,10 @@ loop-less : tie.Need-loop-less Inv-loop μ-loop
 loop-less c = search needs
 
 loop-again : tie.Need-loop-again Inv-loop μ-loop
-loop-again c = words-step (c .before .before .before .before .before .before .before .before .before .before .args .a .now) (c .before .before .before .before .before .before .before .before .before .before .args .b .now) (c .before .before .before .before .before .before .before .loop .p) (c .before .before .before .before .before .before .before .loop .q) _ _ _ (c .before .before .before .before .before .word-of .ensures) (c .before .before .before .before .word-of2 .ensures) (c .before .before .before .same .ensures) (c .before .before .before .before .before .before .before .loop .left) _ _ (c .before .before .before .before .before .before .loop-test .taken) (c .before .before .if1 .taken) (c .before .behind .ensures) (c .behind2 .ensures) ∙ c .before .before .before .before .before .before .before .loop .inv
+loop-again c = words-step (c .before .before .before .before .before .before .before .before .before .before .args .a .now) (c .before .before .before .before .before .before .before .before .before .before .args .b .now) (c .before .before .before .before .before .before .before .loop .p) (c .before .before .before .before .before .before .before .loop .q) _ _ _ (c .before .before .before .before .before .word-bytes .ensures) (c .before .before .before .before .word-bytes2 .ensures) (c .before .before .before .same .ensures) (c .before .before .before .before .before .before .before .loop .left) _ _ (c .before .before .before .before .before .before .loop-test .taken) (c .before .before .if1 .taken) (c .before .past-word .ensures) (c .past-word2 .ensures) ∙ c .before .before .before .before .before .before .before .loop .inv
 
 returns : tie.Need-returns Inv-loop μ-loop
-returns c = sym (words-stop (c .before .before .before .before .before .before .before .before .args .a .now) (c .before .before .before .before .before .before .before .before .args .b .now) (c .before .before .before .before .before .loop .p) (c .before .before .before .before .before .loop .q) _ _ _ (c .before .before .before .word-of .ensures) (c .before .before .word-of2 .ensures) (c .before .same .ensures) (c .before .before .before .before .before .loop .left) (c .before .before .before .before .loop-test .taken) (c .if1 .left)) ∙ c .before .before .before .before .before .loop .inv
+returns c = sym (words-stop (c .before .before .before .before .before .before .before .before .args .a .now) (c .before .before .before .before .before .before .before .before .args .b .now) (c .before .before .before .before .before .loop .p) (c .before .before .before .before .before .loop .q) _ _ _ (c .before .before .before .word-bytes .ensures) (c .before .before .word-bytes2 .ensures) (c .before .same .ensures) (c .before .before .before .before .before .loop .left) (c .before .before .before .before .loop-test .taken) (c .if1 .left)) ∙ c .before .before .before .before .before .loop .inv
 
 returns-2 : tie.Need-returns-2 Inv-loop μ-loop
 returns-2 c = sym (words-end (c .before .before .before .before .args .a .now) (c .before .before .before .before .args .b .now) (c .before .loop .p) (c .before .loop .q) (c .before .loop .left) (c .loop-test .left)) ∙ c .before .loop .inv
@@ -53,11 +53,11 @@ same-words-spec =
     Inv-loop
     μ-loop
     loop-holds
-    word-of-requires
-    word-of-requires-2
+    word-bytes-requires
+    word-bytes-requires-2
     same-requires
-    behind-requires
-    behind-requires-2
+    past-word-requires
+    past-word-requires-2
     sub-left
     loop-less
     loop-again

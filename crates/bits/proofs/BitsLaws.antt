@@ -1,0 +1,54 @@
+-- The bits of a NaN, and lists of reals compared one by one.
+use mathlib.Core.Bool.{Bool, true, false, not, Bool·beq, and-false}
+use mathlib.Core.List.{List, [], _∷_}
+use mathlib.Core.Path.{_≡_, refl, ap}
+use Prim.Native.Nat.{ℕ, suc, _+_, _*_, _≤_, _<_}
+use native.Mathlib.Numerals.{add-one}
+use native.Mathlib.Omega.{arith}
+use borrow.Author.Tests.{eq-eqb, ne-eqb}
+use lib.Dec.{T, eqb}
+use lib.Ieee.{Float, nan, inf, fin, binary64, eq, isNan, toBits, level, up, down}
+use lib.ListN.{length, drop, getD, drop-of-length-le}
+use lib.Seq.{drop-cons}
+use Rattle.bits.specs.Bits.{sameReals}
+
+-- what equals itself is no NaN, and what does not is one
+pub number : (x : Float) → eq x x ≡ true → T (not (isNan x))
+unfolding eq isNan
+number nan e = let z : _≡_ {A = ℕ} 0 1 = cc in absurd (omega arith)
+number (inf s) e = tt
+number (fin s m p) e = tt
+
+beq-refl : (s : Bool) → Bool·beq s s ≡ true
+beq-refl true = refl
+beq-refl false = refl
+
+level-refl : (s : Bool) (n : ℕ) → level s n s n ≡ true
+level-refl s n = rw (eq-eqb n n refl, beq-refl s)
+
+pub nan-bits : (x : Float) → eq x x ≡ false → 9221120237041090560 ≡ toBits binary64 x
+unfolding eq toBits
+nan-bits nan e = refl
+nan-bits (inf s) e = let h = beq-refl s in let z : _≡_ {A = ℕ} 0 1 = cc in absurd (omega arith)
+nan-bits (fin s m p) e = let h = level-refl s (m * up p * down p) in let z : _≡_ {A = ℕ} 0 1 = cc in absurd (omega arith)
+
+pub reals-length : (a b : List Float) → (length a ≡ length b → ⊥) → sameReals a b ≡ false
+unfolding sameReals
+reals-length [] [] h = absurd (h refl)
+reals-length [] (y ∷ b) h = refl
+reals-length (x ∷ a) [] h = refl
+reals-length (x ∷ a) (y ∷ b) h = rw (reals-length a b (λ e. h (ap suc e))) (and-false (eqb (toBits binary64 x) (toBits binary64 y)))
+
+-- lists of one length, from place i on: past the end, at a real that differs, and past one that agrees
+module _ (a b : List Float) (h : length a ≡ length b) (i : ℕ) where
+  pub reals-end : length a ≤ i → sameReals (drop i a) (drop i b) ≡ true
+  unfolding sameReals
+  reals-end l = let m : length b ≤ i = omega arith in rw (drop-of-length-le a l, drop-of-length-le b m)
+
+  pub reals-stop : i < length a → (toBits binary64 (getD a i nan) ≡ toBits binary64 (getD b i nan) → ⊥) → sameReals (drop i a) (drop i b) ≡ false
+  unfolding sameReals
+  reals-stop l e = let m : i < length b = omega arith in rw (drop-cons a i nan l, drop-cons b i nan m, ne-eqb (toBits binary64 (getD a i nan)) (toBits binary64 (getD b i nan)) e)
+
+  pub reals-step : i < length a → toBits binary64 (getD a i nan) ≡ toBits binary64 (getD b i nan) → sameReals (drop (i + 1) a) (drop (i + 1) b) ≡ sameReals (drop i a) (drop i b)
+  unfolding sameReals
+  reals-step l e = let m : i < length b = omega arith in rw (add-one, drop-cons a i nan l, drop-cons b i nan m, eq-eqb (toBits binary64 (getD a i nan)) (toBits binary64 (getD b i nan)) e)

@@ -112,7 +112,7 @@ def fresnel(cos1, n1, n2):
         return "total"
     cos2 = root(u)
     squares = []
-    for x, y in (step(n1 * cos1), step(n2 * cos2)), (divide(n1, cos1), divide(n2, cos2)):
+    for x, y in (step(n1 * cos1), step(n2 * cos2)), (step(n1 * cos2), step(n2 * cos1)):
         quotient = divide(step(x - y), step(x + y))
         squares.append(step(quotient * quotient))
     values = squares + [step(step(0.5 * squares[0]) + step(0.5 * squares[1]))]
@@ -243,6 +243,8 @@ def fresnels():
     pairs = (1, 1), (1, 1.5), (1.5, 1), (1.5, 1.5), (LEAST, LEAST), (0, 1), (1, -0.0), (-1, 1), (1, -LEAST)
     for cos1 in (0.0, -0.0, LEAST, 1e-300, 2.0**-538, 1e-9, 1 - ULP / 2, 1.0, 1 + ULP, 2.0, -LEAST, -1.0):
         yield from ([cos1, *pair] for pair in pairs)
+    for cos1 in (0.0, -0.0, LEAST, 2.0**-1022, 1e-200, 1e-17, 1e-8, 1e-4, 0.01, 0.02):  # grazing light
+        yield from ([cos1, n1, n2] for n1 in (1.0, 1.000293, 1.5) for n2 in indices)
     extremes = (LEAST, 2.0**-1022, 1e-200, 1e-154, 1.0, 1e154, 1e200, LARGEST)
     yield from ([cos1, n1, n2] for n1 in extremes for n2 in extremes for cos1 in (1, 0.5, 1 - ULP / 2))
     yield from common([0.75, 1, 1.5], [0.75, -1, 0])

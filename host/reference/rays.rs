@@ -112,7 +112,7 @@ pub fn fresnel(cos1: f64, n1: f64, n2: f64) -> Reflection {
     }
     let cos2 = step(root(u))?;
     let te = coefficient(step(n1 * cos1)?, step(n2 * cos2)?)?;
-    let tm = coefficient(step(n1 / cos1)?, step(n2 / cos2)?)?;
+    let tm = coefficient(step(n1 * cos2)?, step(n2 * cos1)?)?;
     let f = step(step(0.5 * te)? + step(0.5 * tm)?)?;
     Ok(Some([te, tm, f]))
 }

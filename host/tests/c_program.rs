@@ -28,6 +28,7 @@ ring 0 6
 ring 1 0
 fresnel 0 0.25 0.25 0.25
 fresnel 1 0 0 0
+fresnel 0 1 1 1
 fresnel 20 0 0 0
 root 1.4142135623730949
 root of -1 is none

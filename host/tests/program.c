@@ -64,6 +64,8 @@ static void print_floats(void) {
     printf("fresnel %u %g %g %g\n", (unsigned)kind, answer[0], answer[1], answer[2]);
     kind = kribbelsteen_fresnel(0, 1, 1.5, answer);
     printf("fresnel %u %g %g %g\n", (unsigned)kind, answer[0], answer[1], answer[2]);
+    kind = kribbelsteen_fresnel(0, 1.5, 1.5, answer);
+    printf("fresnel %u %g %g %g\n", (unsigned)kind, answer[0], answer[1], answer[2]);
     printf("root %.17g\n", kribbelsteen_root(2));
     printf("root of -1 is %s\n", isnan(kribbelsteen_root(-1)) ? "none" : "a number");
 }

@@ -109,7 +109,9 @@ fn light_is_reflected() {
     assert_eq!(fresnel(1.0, 1.0, 3.0), all(0.25));
     assert_eq!(fresnel(1.0, 1.0, 1.0), all(0.0));
     assert_eq!(fresnel(0.5, 2.0, 1.0), Ok(Reflection::Total));
-    assert_eq!(fresnel(0.0, 1.0, 1.5), Err(Step::NotFinite));
+    assert_eq!(fresnel(0.0, 1.0, 1.5), all(1.0));
+    assert_eq!(fresnel(-0.0, 1.0, 1.5), all(1.0));
+    assert_eq!(fresnel(0.0, 1.5, 1.5), Err(Step::NotFinite));
     assert_eq!(fresnel(1.5, 1.0, 1.5), Err(Step::OutOfRange));
     // Rounded down: the nearest double to the root of 2 lies above it
     assert_eq!((root(2.0), root(-0.0), root(-1.0)), (Some(SQRT_2.next_down()), Some(0.0), None));

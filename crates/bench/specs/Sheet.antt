@@ -1,4 +1,4 @@
--- The bench sheet: the rows of document 01 that are marked P, one table.
+-- The bench sheet: the rows of document 01 that are marked P, and those of grazing light, one table.
 use mathlib.Core.Bool.{true, false}
 use mathlib.Core.List.{List, [], _∷_}
 use Prim.Native.Nat.{ℕ, _^_}
@@ -72,4 +72,8 @@ rows =
     ∷ row (sphereFrom (whole 2) (whole 0) (minus 5)) (meets miss)
     ∷ row (fresnelAt (whole 1) (whole 1) (whole 3)) (reflects (coefficients (ratio 1 4) (ratio 1 4) (ratio 1 4)))
     ∷ row (fresnelAt (ratio 1 2) (whole 2) (whole 1)) (reflects total)
+    -- 20 until FTM was multiplied through: nothing is divided by the cosine any more, and glass seen edge-on reflects everything
+    ∷ row (fresnelAt (whole 0) (whole 1) (ratio 3 2)) (reflects (coefficients (whole 1) (whole 1) (whole 1)))
+    -- "Equal indices at cosine 0 still divide zero by zero"
+    ∷ row (fresnelAt (whole 0) (ratio 3 2) (ratio 3 2)) (reflects (fresnel.refused 20))
     ∷ []

@@ -7,9 +7,9 @@ use lib.Ieee.{Float, nan, inf, fin, binary64, odd, add, sub, mul, div, lt, le}
 use lib.Ieee.Fits.{and-l, and-r}
 use lib.Ieee.Positive.{num}
 use lib.Ieee.Scale.{finite}
-use Rattle.steps.specs.Step.{step, _⊕_, _⊗_, _⊘_, +0, +1, half}
+use Rattle.steps.specs.Step.{step, _⊕_, _⊗_, +0, +1, half}
 use Rattle.steps.proofs.StepLaws.{step-finite, add-finite, mul-finite, div-finite}
-use Rattle.steps.proofs.SignLaws.{NonNeg, nonneg-step, nonneg-mul, nonneg-div, nonneg-le, nonneg-lt}
+use Rattle.steps.proofs.SignLaws.{NonNeg, nonneg-step, nonneg-mul, nonneg-le, nonneg-lt}
 use Rattle.steps.proofs.SizeLaws.{difference, quotient}
 use Rattle.steps.proofs.RangeLaws.{UpTo, square, mean, in-order}
 use Rattle.root.specs.Root.{rootOf, rootUnits}
@@ -64,7 +64,7 @@ reflected-range cos1 n1 n2 cos2 c1 m1 m2 c2 = past (finite F) (coefficients FTE 
     FTE = coefficient (n1 ⊗ cos1) (n2 ⊗ cos2)
 
     FTM : Float
-    FTM = coefficient (n1 ⊘ cos1) (n2 ⊘ cos2)
+    FTM = coefficient (n1 ⊗ cos2) (n2 ⊗ cos1)
 
     F : Float
     F = half ⊗ FTE ⊕ half ⊗ FTM
@@ -76,7 +76,7 @@ reflected-range cos1 n1 n2 cos2 c1 m1 m2 c2 = past (finite F) (coefficients FTE 
         let e-is = step-finite (mul binary64 half FTE) (halves .0) in
         let m-is = step-finite (mul binary64 half FTM) (halves .1) in
         let e : UpTo +1 FTE = coefficient-range (n1 ⊗ cos1) (n2 ⊗ cos2) (nonneg-step _ (nonneg-mul binary64 n1 cos1 m1 c1)) (nonneg-step _ (nonneg-mul binary64 n2 cos2 m2 c2)) (mul-finite binary64 half FTE (e-is .1) .1) in
-        let m : UpTo +1 FTM = coefficient-range (n1 ⊘ cos1) (n2 ⊘ cos2) (nonneg-step _ (nonneg-div binary64 n1 cos1 m1 c1)) (nonneg-step _ (nonneg-div binary64 n2 cos2 m2 c2)) (mul-finite binary64 half FTM (m-is .1) .1) in
+        let m : UpTo +1 FTM = coefficient-range (n1 ⊗ cos2) (n2 ⊗ cos1) (nonneg-step _ (nonneg-mul binary64 n1 cos2 m1 c2)) (nonneg-step _ (nonneg-mul binary64 n2 cos1 m2 c1)) (mul-finite binary64 half FTM (m-is .1) .1) in
         let f : UpTo +1 F = subst (UpTo +1) (sym (sum-is .0 ∙ (λ i. add binary64 (e-is .0 i) (m-is .0 i)))) (mean binary64 FTE FTM e m) in
         (in-range FTE e, in-range FTM m, in-range F f)
 

@@ -17,11 +17,12 @@ cos2Squared cos1 n1 n2 =
 unfoldable pub coefficient : (a b : Float) → Float
 coefficient a b = let q = (a ⊖ b) ⊘ (a ⊕ b) in q ⊗ q
 
--- "FTE is the square of (n1·cos1-n2·cos2)/(n1·cos1+n2·cos2), FTM that of (n1/cos1-n2/cos2)/(n1/cos1+n2/cos2), F=0.5·FTE+0.5·FTM"
+-- "FTE is the square of (n1·cos1-n2·cos2)/(n1·cos1+n2·cos2)", FTM, "multiplied through: the square of
+-- (n1·cos2-n2·cos1)/(n1·cos2+n2·cos1)", "F=0.5·FTE+0.5·FTM"
 unfoldable pub reflected : (cos1 n1 n2 cos2 : Float) → Outcome
 reflected cos1 n1 n2 cos2 =
     let FTE = coefficient (n1 ⊗ cos1) (n2 ⊗ cos2) in
-    let FTM = coefficient (n1 ⊘ cos1) (n2 ⊘ cos2) in
+    let FTM = coefficient (n1 ⊗ cos2) (n2 ⊗ cos1) in
     let F = half ⊗ FTE ⊕ half ⊗ FTM in
     cond (not (finite F)) (refused 20) (coefficients FTE FTM F)
 

@@ -42,7 +42,7 @@ fn reflected(cos1: f64, n1: f64, n2: f64, cos2: f64) -> Reflection
     ensures { λ r. ⌜ outcomeOf r ≡ reflected cos1 n1 n2 cos2 ⌝ }
 {
     let te = coefficient(step(n1 * cos1), step(n2 * cos2));
-    let tm = coefficient(step(n1 / cos1), step(n2 / cos2));
+    let tm = coefficient(step(n1 * cos2), step(n2 * cos1));
     let f = mean(te, tm);
     if !is_finite(f) {
         return Reflection::Refused(20);

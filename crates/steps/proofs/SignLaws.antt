@@ -2,13 +2,12 @@
 use mathlib.Core.Bool.{Bool, true, false, cond}
 use mathlib.Core.Path.{_≡_, refl, sym, ap, _∙_, subst}
 use Prim.Native.Nat.{ℕ, zero, suc, _*_, _<_}
-use borrow.Author.Tests.{ne-eqb}
-use native.Mathlib.Nat.{zero-mul, mul-zero, mul-pos, zero-lt-suc, suc-ne-zero, lt-irrefl}
+use native.Mathlib.Nat.{zero-mul, mul-zero, mul-pos, zero-lt-suc, lt-irrefl}
 use lib.Dec.{T, eqb, eqb→eq}
-use lib.Ieee.{Float, nan, inf, fin, Format, unlike, up, down, round, mul, div, lt, le}
+use lib.Ieee.{Float, nan, inf, fin, Format, unlike, up, down, round, mul, lt, le}
 use lib.Ieee.Fits.{up-pos, down-pos, and-l}
 use lib.Ieee.Scale.{finite}
-use lib.IntN.{ℤ, pos}
+use lib.IntN.{ℤ}
 use Rattle.steps.specs.Step.{step, +0}
 use Rattle.steps.proofs.DoubleLaws.{signed, signed-round, round-zero}
 
@@ -40,7 +39,7 @@ nonneg-step x h = go (finite x)
     go true = h
     go false = tt
 
--- what a product or a quotient with an infinity or a zero is
+-- what a product with an infinity is
 nonneg-edge : (b s : Bool) → NonNeg (cond b nan (inf s))
 nonneg-edge true s = tt
 nonneg-edge false s = tt
@@ -63,29 +62,6 @@ nonneg-mul f (fin s m e) (fin t n d) p q = nonneg-round f (unlike s t) (m * up e
     go false false p q u = absurd u
     go true false p q u = first-none (m * up e) (n * up d) (first-none m (up e) p)
     go false true p q u = ap (λ (k : ℕ). m * up e * k) (first-none n (up d) q) ∙ mul-zero (m * up e)
-
-pub nonneg-div : (f : Format) (x y : Float) → NonNeg x → NonNeg y → NonNeg (div f x y)
-unfolding div
-nonneg-div f nan y p q = tt
-nonneg-div f (inf s) nan p q = tt
-nonneg-div f (inf s) (inf t) p q = tt
-nonneg-div f (inf s) (fin t n d) p q = tt
-nonneg-div f (fin s m e) nan p q = tt
-nonneg-div f (fin s m e) (inf t) p q = go (unlike s t)
-  where
-    go : (b : Bool) → NonNeg (fin b 0 (pos 0))
-    go true = refl
-    go false = tt
-nonneg-div f (fin s m e) (fin t zero d) p q = nonneg-edge (eqb m 0) (unlike s t)
-nonneg-div f (fin s m e) (fin t (suc n) d) p q =
-    subst (λ (b : Bool). NonNeg (cond b (cond (eqb m 0) nan (inf (unlike s t))) (round f (unlike s t) (m * up e * down d) (suc n * up d * down e)))) (sym (ne-eqb (suc n) 0 (suc-ne-zero n)))
-    (nonneg-round f (unlike s t) (m * up e * down d) (suc n * up d * down e) (mul-pos (mul-pos (zero-lt-suc n) (up-pos d)) (down-pos e)) (go s t p q))
-  where
-    go : (s t : Bool) → NonNeg (fin s m e) → NonNeg (fin t (suc n) d) → T (unlike s t) → m * up e * down d ≡ 0
-    go true true p q u = absurd u
-    go false false p q u = absurd u
-    go true false p q u = first-none (m * up e) (down d) (first-none m (up e) p)
-    go false true p q u = absurd (suc-ne-zero n q)
 
 -- ---- by the order of values
 no-sign : (m : ℕ) (e : ℤ) → T (le +0 (fin true m e)) → m ≡ 0

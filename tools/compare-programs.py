@@ -1,5 +1,6 @@
 #!/usr/bin/env python3
-"""Whether the programs list and finishes print what tools/scene.py does, on texts made from a seed and on those at the limits.
+"""Whether the programs list and finishes print what tools/scene.py does, and tidy what tools/tidy.py does, on texts made from a
+seed and on those at the limits; and whether a tidy text is its own, with the same listing.
 
     tools/compare-programs.py [COUNT [SEED [FOLDER]]]
 
@@ -12,6 +13,7 @@ import sys
 
 import scene
 import texts
+import tidy
 
 TOP = pathlib.Path(__file__).resolve().parent.parent
 REASONS = range(17)  # 0 is accepted
@@ -19,6 +21,8 @@ REASONS = range(17)  # 0 is accepted
 
 def every_text(seed, count):
     yield from texts.limits().values()
+    # The tidy text just fits, or is a byte too long.
+    yield from (texts.packed(65535), texts.packed(65535) + b"\n", texts.packed(65536))
     # One in a hundred is long.
     long = count // 100
     for text, _, _ in texts.texts(seed, long, 200):
@@ -39,7 +43,11 @@ reasons, differ = collections.Counter(), 0
 for text in every_text(seed, count):
     right = scene.listing(text).encode()
     reasons[reason_of(right)] += 1
-    for program, right in ("list", right), ("finishes", scene.finishes(text).encode()):
+    neat = tidy.tidied(text)
+    asked = [("list", text, right), ("finishes", text, scene.finishes(text).encode()), ("tidy", text, neat)]
+    if not neat.startswith(b"refused="):
+        asked += [("list", neat, right), ("tidy", neat, neat)]
+    for program, text, right in asked:
         run = subprocess.run([folder / program], input=text, stdout=subprocess.PIPE)
         if run.returncode != 0 or run.stdout != right:
             differ += 1

@@ -103,6 +103,16 @@ def sized(primitives=1, reals=0, word=1, size=0):
     return out + b"#" * (size - len(out))
 
 
+def packed(size):
+    """An accepted text of so many bytes, at least 100, that spends one blank between two words and has none at its end: its tidy
+    text is one byte longer."""
+    count = -(-size // 65)
+    front, back = b"void mixfunc n %d" % count, b" 0 0"
+    least, longer = divmod(size - len(front) - len(back) - count, count)
+    words = [b"s" * (least + (k < longer)) for k in range(count)]
+    return b" ".join([front, *words]) + back
+
+
 def limits():
     """All limits met at once, and each alone just past."""
     return dict(

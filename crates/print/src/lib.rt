@@ -1,8 +1,9 @@
-// The listing of a scene text, and the finishes of its surfaces, on standard output.
+// The listing of a scene text, the finishes of its surfaces, and its tidy text, on standard output.
 use finish::Finish;
 use libc::STDIN_FILENO;
 use libc::STDOUT_FILENO;
 use reader::Answer;
+use writer::Answer as Tidied;
 ghost use Prim.Native.Nat.{_+_, _≤_};
 ghost use lib.ListN.{length};
 
@@ -10,10 +11,11 @@ ghost use lib.ListN.{length};
 // 44 more.
 const LINE: usize = 256;
 
-// What is shown of a text: a line for each entry, or the finish of each surface.
+// What is shown of a text: a line for each entry, the finish of each surface, or the tidy text.
 enum Shown {
     Listing,
     Finishes,
+    Tidy,
 }
 
 fn write_line(line: &[u8], n: usize)
@@ -54,32 +56,55 @@ fn print_finish(text: &[u8], records: &[u32], count: usize, n: usize) {
     }
 }
 
-fn print_entry(what: Shown, text: &[u8], records: &[u32], count: usize, n: usize) {
-    match what {
-        Shown::Listing => {
-            print_row(text, records, n);
-        }
-        Shown::Finishes => {
-            print_finish(text, records, count, n);
-        }
+fn print_entry(finishes: bool, text: &[u8], records: &[u32], count: usize, n: usize) {
+    if finishes {
+        print_finish(text, records, count, n);
+        return;
     }
+    print_row(text, records, n);
 }
 
-fn print_entries(what: Shown, text: &[u8], records: &[u32], count: usize) {
+fn print_entries(finishes: bool, text: &[u8], records: &[u32], count: usize) {
     let mut n = 0;
     while n < count {
         n += 1;
-        print_entry(what, text, records, count, n);
+        print_entry(finishes, text, records, count, n);
+    }
+}
+
+// Prints the tidy text, or the reason for refusing it and the place.
+fn print_tidy(text: &[u8], records: &[u32], reals: &[f64]) {
+    let mut out = [0u8; 65536];
+    match writer::write(text, records, reals, &mut out) {
+        Tidied::Written(n) => {
+            io::write_all(STDOUT_FILENO, lexer::part(&out, 0, n));
+        }
+        Tidied::Refused(reason, place) => {
+            print_head(reason, place, 0, 0);
+        }
     }
 }
 
 // Only a listing begins with the counts.
-fn print_counts(what: Shown, primitives: usize, reals: usize) {
+fn print_tables(
+    what: Shown,
+    text: &[u8],
+    records: &[u32],
+    reals: &[f64],
+    primitives: usize,
+    count: usize,
+) {
     match what {
         Shown::Listing => {
-            print_head(0, 0, primitives, reals);
+            print_head(0, 0, primitives, count);
+            print_entries(false, text, records, primitives);
         }
-        Shown::Finishes => {}
+        Shown::Finishes => {
+            print_entries(true, text, records, primitives);
+        }
+        Shown::Tidy => {
+            print_tidy(text, records, reals);
+        }
     }
 }
 
@@ -89,8 +114,7 @@ fn show_text(what: Shown, text: &[u8]) {
     let mut reals = [0.0f64; 4096];
     match reader::read(text, &mut records, &mut reals) {
         Answer::Accepted(primitives, count) => {
-            print_counts(what, primitives, count);
-            print_entries(what, text, &records, primitives);
+            print_tables(what, text, &records, &reals, primitives, count);
         }
         Answer::Refused(reason, place) => {
             print_head(reason, place, 0, 0);
@@ -130,4 +154,9 @@ pub fn list_input() {
 // Shows the finishes of the text on standard input.
 pub fn finishes_input() {
     show_input(Shown::Finishes);
+}
+
+// Writes out the text on standard input, tidy.
+pub fn tidy_input() {
+    show_input(Shown::Tidy);
 }

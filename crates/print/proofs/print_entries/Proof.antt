@@ -5,10 +5,10 @@ use Rattle.print.proofs.print_entries.Statement.{statement}
 use Rattle.print.proofs.print_entries.Tie as tie
 
 abbrev Inv-loop : tie.InvT-loop
-Inv-loop what text records count n₀ n = n ≤ count
+Inv-loop finishes text records count n₀ n = n ≤ count
 
 abbrev μ-loop : tie.MeasureT-loop
-μ-loop what text records count n₀ n = count - n
+μ-loop finishes text records count n₀ n = count - n
 
 loop-holds : tie.Need-loop-holds Inv-loop μ-loop
 loop-holds c = search needs

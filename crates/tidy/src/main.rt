@@ -1,0 +1,4 @@
+// Writes out the scene text on standard input, tidy.
+fn main() {
+    print::tidy_input();
+}

@@ -1,0 +1,9 @@
+pub mod WordLaws
+pub mod CountLaws
+pub mod ProperLaws
+pub mod StatementLaws
+pub mod ReadBackLaws
+pub mod RowLaws
+pub mod PutsLaws
+pub mod TableLaws
+pub mod AnswerLaws

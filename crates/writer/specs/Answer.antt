@@ -1,0 +1,58 @@
+-- What the writing call answers, and what it leaves in the lent output.
+use mathlib.Core.Bool.{Bool, cond, _&&_}
+use mathlib.Core.List.{List, []}
+use mathlib.Core.Path.{_≡_}
+use Prim.Native.Nat.{ℕ}
+use lib.Dec.{leb}
+use lib.Ieee.{Float}
+use lib.ListN.{length}
+use Rattle.bits.specs.Bits.{sameReals}
+use Rattle.laws.specs.Bytes.{Bytes, same}
+use Rattle.reader.specs.Answer.{readInto}
+use Rattle.scene.specs.Reading as reading
+use Rattle.scene.specs.Reading.{Reading, accepted, statements}
+use Rattle.scene.specs.Record.{filled, recordImage, realImage}
+use Rattle.writer.specs.Tidy.{tidy}
+use Rattle.writer.specs.declared.Answer.{Answer}
+use Rattle.writer.specs.declared.Answer.the-variants.{Written, Refused}
+
+-- the tidy text, or the reason for refusing and its place
+pub data Outcome : Type 0 where
+  refused : (reason place : ℕ) → Outcome
+  written : Bytes → Outcome
+
+-- "The tables, never written, are first compared with a fresh reading at those sizes, reals by bits": whole, with the entries
+-- beyond the used ones
+unfoldable pub tablesMatch : (records : List ℕ) → (reals : List Float) → Reading → Bool
+tablesMatch records reals r = same records (recordImage (length records) r) && sameReals reals (realImage (length reals) r)
+
+-- "23 output too small for the exact length"
+abbrev pub fitted : (room : ℕ) → Bytes → Outcome
+fitted room text = cond (leb (length text) room) (written text) (refused 23 0)
+
+-- "Refusals, in order: the reader's; 22 tables differ from the text; 23 [..]; 22 and 23 at place 0"
+abbrev pub outcomeOf : (records : List ℕ) → (reals : List Float) → (room : ℕ) → Reading → Outcome
+outcomeOf records reals room (reading.refused n p) = refused n p
+outcomeOf records reals room (accepted es) =
+    cond (tablesMatch records reals (accepted es)) (fitted room (tidy (statements es))) (refused 22 0)
+
+abbrev pub tidied : Bytes → (records : List ℕ) → (reals : List Float) → (room : ℕ) → Outcome
+tidied text records reals room = outcomeOf records reals room (readInto text records reals)
+
+-- the answer: the text's length, or reason and place
+abbrev pub answered : Outcome → Answer
+answered (refused n p) = Refused n p
+answered (written t) = Written (length t)
+
+-- "refusals zero the whole output, success its unused rest"
+abbrev pub bytesOf : Outcome → Bytes
+bytesOf (refused n p) = []
+bytesOf (written t) = t
+
+abbrev pub output : ℕ → Outcome → Bytes
+output n o = filled 0 n (bytesOf o)
+
+-- one call: the answer, and the output at exit
+pub record Writes (text : Bytes) (records : List ℕ) (reals : List Float) (out : Bytes) (r : Answer) (out′ : Bytes) : Type 0 where
+  pub says : r ≡ answered (tidied text records reals (length out))
+  pub output : out′ ≡ output (length out) (tidied text records reals (length out))

@@ -32,6 +32,11 @@ nan-bits nan e = refl
 nan-bits (inf s) e = let h = beq-refl s in let z : _≡_ {A = ℕ} 0 1 = cc in absurd (omega arith)
 nan-bits (fin s m p) e = let h = level-refl s (m * up p * down p) in let z : _≡_ {A = ℕ} 0 1 = cc in absurd (omega arith)
 
+pub reals-same : (xs : List Float) → sameReals xs xs ≡ true
+unfolding sameReals
+reals-same [] = refl
+reals-same (x ∷ xs) = rw (eq-eqb (toBits binary64 x) (toBits binary64 x) refl) (reals-same xs)
+
 pub reals-length : (a b : List Float) → (length a ≡ length b → ⊥) → sameReals a b ≡ false
 unfolding sameReals
 reals-length [] [] h = absurd (h refl)

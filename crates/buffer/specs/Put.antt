@@ -8,6 +8,6 @@ use Rattle.laws.specs.Bytes.{Bytes}
 unfoldable pub put : (buffer : Bytes) (at : ℕ) (new : Bytes) → Bytes
 put buffer at new = take at buffer ++ take (length buffer - at) new ++ drop (at + length new) buffer
 
--- the place behind them
+-- the place behind those that fit
 abbrev pub behind : (buffer : Bytes) (at : ℕ) (new : Bytes) → ℕ
-behind buffer at new = min (at + length new) (length buffer)
+behind buffer at new = at + min (length new) (length buffer - at)

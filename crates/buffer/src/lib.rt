@@ -18,7 +18,7 @@ pub fn put_bytes(out: &mut [u8], at: usize, new: &[u8]) -> usize
         out[start + i] = new[i];
         i += 1;
     }
-    start + fit
+    at + fit
 }
 
 // Spells n in the last bytes of `text`, and answers where its digits start.

@@ -1,40 +1,59 @@
 -- A search along the table of house rules.
-use mathlib.Core.Bool.{Bool, true, false, _&&_, _||_, true≢false}
+use mathlib.Core.Bool.{Bool, true, false, not, _&&_, _||_, true≢false}
 use mathlib.Core.List.{List, [], _∷_, map}
 use mathlib.Core.Logic.{_⊎_, inl, inr}
 use mathlib.Core.Path.{_≡_, refl, sym, ap, _∙_}
 use Prim.Native.Nat.{ℕ, suc, _+_, _≤_, _<_}
-use borrow.Author.Tests.{le-leb, le-ltb, lt-leb, ne-eqb}
+use borrow.Author.Tests.{eq-eqb, le-leb, le-ltb, lt-leb, ne-eqb}
 use native.Mathlib.Numerals.{add-one}
 use lib.Dec.{T, leb, ltb, eqb}
-use lib.Ieee.{Float}
+use lib.Ieee.{Float, lt}
 use lib.Ieee.Bits.{is-true}
 use lib.Ieee.Fits.{and-l, and-r}
 use lib.ListN.{drop, getD, drop-of-length-le, List·getD-map}
 use lib.Seq.{drop-cons}
 use Rattle.laws.proofs.NatLaws.{le-or-lt}
 use Rattle.laws.specs.Table.{ruled}
+use Rattle.laws.specs.Bytes.{same}
 use Rattle.scene.specs.HouseRules as rules
-use Rattle.scene.specs.HouseRules.{breachAt, houseRules}
-use Rattle.kinds.specs.Rules.{house, breached}
-use Rattle.kinds.specs.declared.House.{House}
-use Rattle.kinds.specs.declared.HouseRule.{HouseRule}
-use Rattle.kinds.specs.declared.HouseRule.the-variants.{Above0, AtLeast0, AboveInner, NotBoth0, NotAll0}
+use Rattle.scene.specs.HouseRules.{breachAt, houseRules, isAbove0, isAtLeast0, is0}
+use Rattle.scene.specs.Types.{numberFrom, typeNumber}
+use Rattle.kinds.specs.Rules.{house, houseRule, breached, broken}
 
--- a rule as the code's table has it
-abbrev codedRule : rules.HouseRule → HouseRule
-codedRule rules.above0 = Above0
-codedRule rules.atLeast0 = AtLeast0
-codedRule rules.aboveInner = AboveInner
-codedRule rules.notBoth0 = NotBoth0
-codedRule rules.notAll0 = NotAll0
+-- the code's table
+abbrev table : List ℕ
+table = 240 ∷ 340 ∷ 770 ∷ 870 ∷ 571 ∷ 581 ∷ 583 ∷ 671 ∷ 681 ∷ 683 ∷ 971 ∷ 982 ∷ 134 ∷ 964 ∷ 2140 ∷ 2240 ∷ 2280 ∷ 2340 ∷ 1850 ∷ 1860 ∷ 1950 ∷ 1960 ∷ 2050 ∷ 2060 ∷ []
 
-abbrev coded : rules.House → House
-coded h = (h .type, h .real, codedRule (h .rule))
+-- it has the house rules, as antt computes
+table-is : map house table ≡ houseRules
+unfolding houseRule typeNumber numberFrom same
+table-is = refl
 
--- the code's table, as antt computes it
-abbrev table : List House
-table = map coded houseRules
+-- ---- a rule by its number
+
+module _ (n : ℕ) (x y z : Float) where
+  pub asks-above-0 : n ≡ 0 → not (isAbove0 x) ≡ broken n x y z
+  unfolding houseRule
+  asks-above-0 e = rw (eq-eqb n 0 e)
+
+  module _ (a : n ≡ 0 → ⊥) where
+    pub asks-at-least-0 : n ≡ 1 → not (isAtLeast0 x) ≡ broken n x y z
+    unfolding houseRule
+    asks-at-least-0 e = rw (ne-eqb n 0 a, eq-eqb n 1 e)
+
+    module _ (b : n ≡ 1 → ⊥) where
+      pub asks-above-inner : n ≡ 2 → not (lt y x) ≡ broken n x y z
+      unfolding houseRule
+      asks-above-inner e = rw (ne-eqb n 0 a, ne-eqb n 1 b, eq-eqb n 2 e)
+
+      module _ (c : n ≡ 2 → ⊥) where
+        pub asks-not-both-0 : n ≡ 3 → (is0 x && is0 y) ≡ broken n x y z
+        unfolding houseRule
+        asks-not-both-0 e = rw (ne-eqb n 0 a, ne-eqb n 1 b, ne-eqb n 2 c, eq-eqb n 3 e)
+
+        pub asks-not-all-0 : (n ≡ 3 → ⊥) → (is0 x && is0 y && is0 z) ≡ broken n x y z
+        unfolding houseRule
+        asks-not-all-0 d = rw (ne-eqb n 0 a, ne-eqb n 1 b, ne-eqb n 2 c, ne-eqb n 3 d)
 
 -- ---- the reals with rules are the third to the eighth
 
@@ -76,11 +95,11 @@ module _ (t k : ℕ) (x y z : Float) (i : ℕ) where
   unfolding breachAt
   breach-end h = rw (drop-of-length-le houseRules h)
 
-  module _ (d : House) (h : i < 24) where
+  module _ (d : ℕ) (h : i < 24) where
     next : drop i houseRules ≡ house (getD table i d) ∷ drop (suc i) houseRules
     next =
         drop-cons houseRules i (house d) h
-        ∙ ap (λ (r : rules.House). r ∷ drop (suc i) houseRules) (List·getD-map house table i d)
+        ∙ ap (λ (r : rules.House). r ∷ drop (suc i) houseRules) (ap (λ (hs : List rules.House). getD hs i (house d)) (sym table-is) ∙ List·getD-map house table i d)
 
     pub breach-hit : breached (getD table i d) t k x y z ≡ true → breachAt (drop i houseRules) t k x y z ≡ true
     unfolding breachAt

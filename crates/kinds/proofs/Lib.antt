@@ -1,3 +1,4 @@
+pub mod CopyLaws
 pub mod CountLaws
 pub mod HouseLaws
 pub mod NameLaws

@@ -2,43 +2,72 @@
 use mathlib.Core.Bool.{true, false}
 use mathlib.Core.List.{List, [], _∷_, map}
 use mathlib.Core.Path.{_≡_, refl, sym, ap, _∙_}
-use Prim.Native.Nat.{ℕ, suc, _+_, _-_, _≤_, _<_}
+use Prim.Native.Nat.{ℕ, zero, suc, _+_, _-_, _*_, _≤_, _<_}
 use native.Mathlib.Numerals.{add-one}
 use native.Mathlib.Omega.{arith}
-use lib.ListN.{length, drop, getD, replicate, drop-of-length-le}
-use lib.Seq.{drop-cons, take-append-seam}
+use lib.ListN.{length, take, drop, getD, replicate, drop-of-length-le}
+use lib.Seq.{drop-cons, drop-drop, take-append-seam}
 use Rattle.laws.proofs.TableLaws.{entry-means}
 use Rattle.laws.specs.Bytes.{Bytes, byte, part, same}
 use Rattle.scene.specs.Types.{Kind, types, kindOf, typeName, numberFrom}
 use Rattle.kinds.proofs.RowLaws.{noType, row-kind, no-row}
-use Rattle.kinds.specs.Names.{padded}
+use Rattle.kinds.specs.Names.{names, padded}
 use Rattle.kinds.specs.declared.Name.{Name}
-
-abbrev nameOf : Kind → Name
-nameOf t = padded (t .name)
-
--- the code's table, as antt computes it
-abbrev table : List Name
-table = map nameOf types
 
 -- a name's own bytes
 pub own-bytes : (n : Name) (w : Bytes) → n ≡ padded w → part (n .0) 0 (n .1) ≡ w
 own-bytes n w e = ap (λ (m : Name). part (m .0) 0 (m .1)) e ∙ take-append-seam w (replicate (10 - length w) (byte " "))
 
+-- ---- the rows of the table: a name's own bytes, its ten bytes, and its length
+
+abbrev Row : Type 0
+Row = Bytes × Name
+
+-- the lengths, as antt computes them
+abbrev lengths : List ℕ
+lengths = map (λ (t : Kind). length (t .name)) types
+
+abbrev rowIn : Bytes → ℕ → ℕ → Row
+rowIn bytes place len = (part bytes place len, (part bytes place 10, len))
+
+rows : Bytes → List ℕ → List Row
+rows bytes [] = []
+rows bytes (l ∷ ls) = rowIn bytes 0 l ∷ rows (drop 10 bytes) ls
+
+none : Row
+none = ([], ([], 0))
+
+row-at : (bytes : Bytes) (ls : List ℕ) (k d : ℕ) → k < length ls → rowIn bytes (k * 10) (getD ls k d) ≡ getD (rows bytes ls) k none
+unfolding rows
+row-at bytes [] k d h = absurd (omega arith)
+row-at bytes (l ∷ ls) zero d h = refl
+row-at bytes (l ∷ ls) (suc k) d h =
+    let e : suc k * 10 ≡ 10 + k * 10 = omega arith in
+    let n : ℕ = getD ls k d in
+    ap (λ (i : ℕ). rowIn bytes i n) e
+    ∙ ap {A = Bytes} {B = Row} (λ b. (take n b, (take 10 b, n))) (sym (drop-drop (k * 10) 10 bytes))
+    ∙ row-at (drop 10 bytes) ls k d (omega arith)
+
+abbrev rowOf : Kind → Row
+rowOf t = (t .name, padded (t .name))
+
 module _ (t k : ℕ) (r : k ≡ t - 1) where
-  pub in-table : (d : Name) → k < 25 → getD table k d ≡ padded (typeName t)
+  row-is : (d : ℕ) → k < 25 → rowIn names (k * 10) (getD lengths k d) ≡ rowOf (kindOf t)
+  unfolding rows
+  row-is d h = row-at names lengths k d h ∙ entry-means (λ (x : Row). x) rowOf (rows names lengths) types refl k none noType h ∙ ap rowOf (row-kind t k r)
+
+  pub in-table : (d : ℕ) (b : Bytes) → b ≡ part names (k * 10) 10 → k < 25 → (b, getD lengths k d) ≡ padded (typeName t)
   unfolding typeName
-  in-table d h = entry-means (λ n. n) nameOf table types refl k d noType h ∙ ap nameOf (row-kind t k r)
+  in-table d b e h = (λ i. (e i, getD lengths k d)) ∙ ap (λ (x : Row). x .1) (row-is d h)
 
   pub past-table : 25 ≤ k → padded [] ≡ padded (typeName t)
   unfolding typeName
-  past-table h = sym (ap nameOf (no-row t k r h))
+  past-table h = sym (ap (λ (x : Kind). padded (x .name)) (no-row t k r h))
 
 -- the own bytes of the table's row t are the name of type t + 1
-pub named : (d : Name) (t : ℕ) → t < 25 → part (getD table t d .0) 0 (getD table t d .1) ≡ typeName (t + 1)
-named d t h =
-    let e : t ≡ t + 1 - 1 = omega arith in
-    own-bytes _ _ (in-table (t + 1) t e d h)
+pub named : (d t : ℕ) → t < 25 → part names (t * 10) (getD lengths t d) ≡ typeName (t + 1)
+unfolding typeName
+named d t h = let e : t ≡ t + 1 - 1 = omega arith in ap (λ (x : Row). x .0) (row-is (t + 1) t e d h)
 
 -- a search past the last type, at the type that has the name, and past one that has not
 module _ (w : Bytes) (t : ℕ) where

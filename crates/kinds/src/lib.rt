@@ -1,81 +1,135 @@
 // The 25 types: names, counts, house rules.
 ghost use mathlib.Core.Path.{_≡_};
-ghost use Prim.Native.Nat.{_-_};
-ghost use Rattle.laws.specs.Bytes.{part, same};
+ghost use Prim.Native.Nat.{_-_, _*_, _<_};
+ghost use Rattle.laws.specs.Bytes.{part};
 ghost use Rattle.scene.specs.HouseRules.{breachAt, houseRules, isAbove0, isAtLeast0, is0};
-ghost use Rattle.scene.specs.Types.{realsAllowed, stringsAllowed, typeName, typeNumber};
-ghost use Rattle.kinds.specs.Names.{padded};
-ghost use Rattle.kinds.specs.Rules.{allowed, breached, broken, countsIn, countsOf};
+ghost use Rattle.scene.specs.Types.{allows, realsAllowed, stringsAllowed, typeName, typeNumber};
+ghost use Rattle.kinds.specs.Names.{names, padded};
+ghost use Rattle.kinds.specs.Rules.{breached, broken, ruleOf};
 
 // A name: ten bytes, and how many of them, from the first on, are its own.
 pub struct Name(pub [u8; 10], pub usize);
 
-const NAMES: [Name; 25] = [
-    Name(*b"source    ", 6),
-    Name(*b"sphere    ", 6),
-    Name(*b"bubble    ", 6),
-    Name(*b"polygon   ", 7),
-    Name(*b"cone      ", 4),
-    Name(*b"cup       ", 3),
-    Name(*b"cylinder  ", 8),
-    Name(*b"tube      ", 4),
-    Name(*b"ring      ", 4),
-    Name(*b"light     ", 5),
-    Name(*b"illum     ", 5),
-    Name(*b"glow      ", 4),
-    Name(*b"spotlight ", 9),
-    Name(*b"mirror    ", 6),
-    Name(*b"plastic   ", 7),
-    Name(*b"metal     ", 5),
-    Name(*b"trans     ", 5),
-    Name(*b"plastic2  ", 8),
-    Name(*b"metal2    ", 6),
-    Name(*b"trans2    ", 6),
-    Name(*b"dielectric", 10),
-    Name(*b"interface ", 9),
-    Name(*b"glass     ", 5),
-    Name(*b"antimatter", 10),
-    Name(*b"mixfunc   ", 7),
+// The names one behind the other, with blanks behind each to ten bytes, and how many bytes are each name's own. A table of
+// numbers is proved in no time, one of structs in seconds.
+const NAMES: [u8; 250] = *b"source    \
+    sphere    \
+    bubble    \
+    polygon   \
+    cone      \
+    cup       \
+    cylinder  \
+    tube      \
+    ring      \
+    light     \
+    illum     \
+    glow      \
+    spotlight \
+    mirror    \
+    plastic   \
+    metal     \
+    trans     \
+    plastic2  \
+    metal2    \
+    trans2    \
+    dielectric\
+    interface \
+    glass     \
+    antimatter\
+    mixfunc   ";
+
+const LENGTHS: [usize; 25] = [
+    6, // source
+    6, // sphere
+    6, // bubble
+    7, // polygon
+    4, // cone
+    3, // cup
+    8, // cylinder
+    4, // tube
+    4, // ring
+    5, // light
+    5, // illum
+    4, // glow
+    9, // spotlight
+    6, // mirror
+    7, // plastic
+    5, // metal
+    5, // trans
+    8, // plastic2
+    6, // metal2
+    6, // trans2
+    10, // dielectric
+    9, // interface
+    5, // glass
+    10, // antimatter
+    7, // mixfunc
 ];
 
-// A rule on a count. Corners are a multiple of 3, at least 9.
-enum CountRule {
-    Exactly(u32),
-    OrMore(u32),
-    Either(u32, u32),
-    Corners,
-    Any,
-}
+// A rule on a count, as a number: below 100 exactly so many, and from there on so many or more. Corners are a multiple of 3,
+// at least 9.
+const OR_MORE: u32 = 100;
 
-// How many strings, and how many reals.
-struct Counts(CountRule, CountRule);
+const THREE_OR_FOUR: u32 = 200;
 
-const COUNTS: [Counts; 25] = [
-    Counts(CountRule::Exactly(0), CountRule::Exactly(4)), // source
-    Counts(CountRule::Exactly(0), CountRule::Exactly(4)), // sphere
-    Counts(CountRule::Exactly(0), CountRule::Exactly(4)), // bubble
-    Counts(CountRule::Exactly(0), CountRule::Corners), // polygon
-    Counts(CountRule::Exactly(0), CountRule::Exactly(8)), // cone
-    Counts(CountRule::Exactly(0), CountRule::Exactly(8)), // cup
-    Counts(CountRule::Exactly(0), CountRule::Exactly(7)), // cylinder
-    Counts(CountRule::Exactly(0), CountRule::Exactly(7)), // tube
-    Counts(CountRule::Exactly(0), CountRule::Exactly(8)), // ring
-    Counts(CountRule::Exactly(0), CountRule::Exactly(3)), // light
-    Counts(CountRule::Exactly(1), CountRule::Exactly(3)), // illum
-    Counts(CountRule::Exactly(0), CountRule::Exactly(4)), // glow
-    Counts(CountRule::Exactly(0), CountRule::Exactly(7)), // spotlight
-    Counts(CountRule::Exactly(1), CountRule::Exactly(3)), // mirror
-    Counts(CountRule::Exactly(0), CountRule::Exactly(5)), // plastic
-    Counts(CountRule::Exactly(0), CountRule::Exactly(5)), // metal
-    Counts(CountRule::Exactly(0), CountRule::Exactly(7)), // trans
-    Counts(CountRule::OrMore(4), CountRule::Exactly(6)), // plastic2
-    Counts(CountRule::OrMore(4), CountRule::Exactly(6)), // metal2
-    Counts(CountRule::OrMore(4), CountRule::Exactly(8)), // trans2
-    Counts(CountRule::Exactly(0), CountRule::Exactly(5)), // dielectric
-    Counts(CountRule::Exactly(0), CountRule::Exactly(8)), // interface
-    Counts(CountRule::Exactly(0), CountRule::Either(3, 4)), // glass
-    Counts(CountRule::OrMore(1), CountRule::Exactly(0)), // antimatter
-    Counts(CountRule::OrMore(4), CountRule::Any), // mixfunc
+const CORNERS: u32 = 201;
+
+const ANY: u32 = 202;
+
+const STRINGS: [u32; 25] = [
+    0, // source
+    0, // sphere
+    0, // bubble
+    0, // polygon
+    0, // cone
+    0, // cup
+    0, // cylinder
+    0, // tube
+    0, // ring
+    0, // light
+    1, // illum
+    0, // glow
+    0, // spotlight
+    1, // mirror
+    0, // plastic
+    0, // metal
+    0, // trans
+    OR_MORE + 4, // plastic2
+    OR_MORE + 4, // metal2
+    OR_MORE + 4, // trans2
+    0, // dielectric
+    0, // interface
+    0, // glass
+    OR_MORE + 1, // antimatter
+    OR_MORE + 4, // mixfunc
+];
+
+const REALS: [u32; 25] = [
+    4, // source
+    4, // sphere
+    4, // bubble
+    CORNERS, // polygon
+    8, // cone
+    8, // cup
+    7, // cylinder
+    7, // tube
+    8, // ring
+    3, // light
+    3, // illum
+    4, // glow
+    7, // spotlight
+    3, // mirror
+    5, // plastic
+    5, // metal
+    7, // trans
+    6, // plastic2
+    6, // metal2
+    8, // trans2
+    5, // dielectric
+    8, // interface
+    THREE_OR_FOUR, // glass
+    0, // antimatter
+    ANY, // mixfunc
 ];
 
 const SOURCE: u32 = 1;
@@ -107,42 +161,42 @@ const INTERFACE: u32 = 22;
 const GLASS: u32 = 23;
 
 // What a house rule asks of a real, of it and the one before, or of it and the two before.
-enum HouseRule {
-    Above0,
-    AtLeast0,
-    AboveInner,
-    NotBoth0,
-    NotAll0,
-}
+const ABOVE_0: u32 = 0;
 
-// A type, which of its reals completes a breach, counted from 1, and the rule.
-struct House(u32, u32, HouseRule);
+const AT_LEAST_0: u32 = 1;
 
-const HOUSES: [House; 24] = [
-    House(SPHERE, 4, HouseRule::Above0),
-    House(BUBBLE, 4, HouseRule::Above0),
-    House(CYLINDER, 7, HouseRule::Above0),
-    House(TUBE, 7, HouseRule::Above0),
-    House(CONE, 7, HouseRule::AtLeast0),
-    House(CONE, 8, HouseRule::AtLeast0),
-    House(CONE, 8, HouseRule::NotBoth0),
-    House(CUP, 7, HouseRule::AtLeast0),
-    House(CUP, 8, HouseRule::AtLeast0),
-    House(CUP, 8, HouseRule::NotBoth0),
-    House(RING, 7, HouseRule::AtLeast0),
-    House(RING, 8, HouseRule::AboveInner),
-    House(SOURCE, 3, HouseRule::NotAll0),
-    House(RING, 6, HouseRule::NotAll0),
-    House(DIELECTRIC, 4, HouseRule::Above0),
-    House(INTERFACE, 4, HouseRule::Above0),
-    House(INTERFACE, 8, HouseRule::Above0),
-    House(GLASS, 4, HouseRule::Above0),
-    House(PLASTIC2, 5, HouseRule::Above0),
-    House(PLASTIC2, 6, HouseRule::Above0),
-    House(METAL2, 5, HouseRule::Above0),
-    House(METAL2, 6, HouseRule::Above0),
-    House(TRANS2, 5, HouseRule::Above0),
-    House(TRANS2, 6, HouseRule::Above0),
+const ABOVE_INNER: u32 = 2;
+
+const NOT_BOTH_0: u32 = 3;
+
+const NOT_ALL_0: u32 = 4;
+
+// A type, which of its reals completes a breach, counted from 1, and the rule, as one number.
+const HOUSES: [u32; 24] = [
+    SPHERE * 100 + 4 * 10 + ABOVE_0,
+    BUBBLE * 100 + 4 * 10 + ABOVE_0,
+    CYLINDER * 100 + 7 * 10 + ABOVE_0,
+    TUBE * 100 + 7 * 10 + ABOVE_0,
+    CONE * 100 + 7 * 10 + AT_LEAST_0,
+    CONE * 100 + 8 * 10 + AT_LEAST_0,
+    CONE * 100 + 8 * 10 + NOT_BOTH_0,
+    CUP * 100 + 7 * 10 + AT_LEAST_0,
+    CUP * 100 + 8 * 10 + AT_LEAST_0,
+    CUP * 100 + 8 * 10 + NOT_BOTH_0,
+    RING * 100 + 7 * 10 + AT_LEAST_0,
+    RING * 100 + 8 * 10 + ABOVE_INNER,
+    SOURCE * 100 + 3 * 10 + NOT_ALL_0,
+    RING * 100 + 6 * 10 + NOT_ALL_0,
+    DIELECTRIC * 100 + 4 * 10 + ABOVE_0,
+    INTERFACE * 100 + 4 * 10 + ABOVE_0,
+    INTERFACE * 100 + 8 * 10 + ABOVE_0,
+    GLASS * 100 + 4 * 10 + ABOVE_0,
+    PLASTIC2 * 100 + 5 * 10 + ABOVE_0,
+    PLASTIC2 * 100 + 6 * 10 + ABOVE_0,
+    METAL2 * 100 + 5 * 10 + ABOVE_0,
+    METAL2 * 100 + 6 * 10 + ABOVE_0,
+    TRANS2 * 100 + 5 * 10 + ABOVE_0,
+    TRANS2 * 100 + 6 * 10 + ABOVE_0,
 ];
 
 // The row of a type's number in the tables; number 0, of no type, has row 0 too.
@@ -150,6 +204,21 @@ fn row(t: u32) -> usize
     ensures { λ r. ⌜ r ≡ t - 1 ⌝ }
 {
     if t == 0 { 0 } else { (t - 1) as usize }
+}
+
+// The ten bytes of row k of the names.
+fn spelling(k: usize) -> [u8; 10]
+    requires { ⌜ k < 25 ⌝ }
+    ensures { λ r. ⌜ r ≡ part names (k * 10) 10 ⌝ }
+{
+    let names = NAMES;
+    let mut bytes = *b"          ";
+    let mut i = 0;
+    while i < 10 {
+        bytes[i] = names[k * 10 + i];
+        i += 1;
+    }
+    bytes
 }
 
 // The name of a type's number; none past the last type.
@@ -160,14 +229,8 @@ pub fn type_name(t: u32) -> Name
     if 25 <= k {
         return Name(*b"          ", 0);
     }
-    NAMES[k]
-}
-
-fn is_named(word: &[u8], name: Name) -> bool
-    ensures { λ r. ⌜ r ≡ same (now (word .entry)) (part (name .0) 0 (name .1)) ⌝ }
-{
-    let bytes = name.0;
-    lexer::same(word, lexer::part(&bytes, 0, name.1))
+    let bytes = spelling(k);
+    Name(bytes, LENGTHS[k])
 }
 
 // The number of the type with a name, 0 for none.
@@ -175,56 +238,57 @@ pub fn type_number(word: &[u8]) -> u32
     ensures { λ r. ⌜ r ≡ typeNumber (now (word .entry)) ⌝ }
 {
     let names = NAMES; // laid out once
+    let lengths = LENGTHS;
     let mut t: usize = 0;
     while t < 25 {
-        let name = names[t];
+        let place = t * 10;
+        let len = lengths[t];
         t += 1;
-        if is_named(word, name) {
+        if lexer::same(word, lexer::part(&names, place, len)) {
             return t as u32;
         }
     }
     0
 }
 
-fn allowed(rule: CountRule, n: u32) -> bool
-    ensures { λ r. ⌜ r ≡ allowed rule n ⌝ }
+fn allowed(rule: u32, n: u32) -> bool
+    ensures { λ r. ⌜ r ≡ allows (ruleOf rule) n ⌝ }
 {
-    match rule {
-        CountRule::Exactly(a) => n == a,
-        CountRule::OrMore(a) => a <= n,
-        CountRule::Either(a, b) => (n == a) | (n == b),
-        CountRule::Corners => (9 <= n) & (n % 3 == 0),
-        CountRule::Any => true,
+    if rule < OR_MORE {
+        return n == rule;
     }
+    if rule < THREE_OR_FOUR {
+        return rule - OR_MORE <= n;
+    }
+    if rule == THREE_OR_FOUR {
+        return (n == 3) | (n == 4);
+    }
+    if rule == CORNERS {
+        return (9 <= n) & (n % 3 == 0);
+    }
+    true
 }
 
-// The counts of a type. A number past the last type may have any.
-fn counts_of(t: u32) -> Counts
-    ensures { λ r. ⌜ countsIn r ≡ countsOf t ⌝ }
-{
-    let k = row(t);
-    if 25 <= k {
-        return Counts(CountRule::Any, CountRule::Any);
-    }
-    COUNTS[k]
-}
-
-// Whether a type may have n strings.
+// Whether a type may have n strings. A number past the last type may have any.
 pub fn strings_allowed(t: u32, n: u32) -> bool
     ensures { λ r. ⌜ r ≡ stringsAllowed t n ⌝ }
 {
-    let counts = counts_of(t);
-    let rule = counts.0;
-    allowed(rule, n)
+    let k = row(t);
+    if 25 <= k {
+        return true;
+    }
+    allowed(STRINGS[k], n)
 }
 
 // Whether a type may have n reals.
 pub fn reals_allowed(t: u32, n: u32) -> bool
     ensures { λ r. ⌜ r ≡ realsAllowed t n ⌝ }
 {
-    let counts = counts_of(t);
-    let rule = counts.1;
-    allowed(rule, n)
+    let k = row(t);
+    if 25 <= k {
+        return true;
+    }
+    allowed(REALS[k], n)
 }
 
 fn is_above_0(x: f64) -> bool
@@ -245,26 +309,31 @@ fn is_0(x: f64) -> bool
     x == 0.0
 }
 
-fn breaks(rule: HouseRule, x: f64, previous: f64, first: f64) -> bool
+fn breaks(rule: u32, x: f64, previous: f64, first: f64) -> bool
     ensures { λ r. ⌜ r ≡ broken rule x previous first ⌝ }
 {
-    match rule {
-        HouseRule::Above0 => !is_above_0(x),
-        HouseRule::AtLeast0 => !is_at_least_0(x),
-        HouseRule::AboveInner => !(previous < x),
-        HouseRule::NotBoth0 => is_0(x) & is_0(previous),
-        HouseRule::NotAll0 => is_0(x) & is_0(previous) & is_0(first),
+    if rule == ABOVE_0 {
+        return !is_above_0(x);
     }
+    if rule == AT_LEAST_0 {
+        return !is_at_least_0(x);
+    }
+    if rule == ABOVE_INNER {
+        return !(previous < x);
+    }
+    if rule == NOT_BOTH_0 {
+        return is_0(x) & is_0(previous);
+    }
+    is_0(x) & is_0(previous) & is_0(first)
 }
 
-fn breaks_house(house: House, t: u32, count: u32, x: f64, previous: f64, first: f64) -> bool
+fn breaks_house(house: u32, t: u32, count: u32, x: f64, previous: f64, first: f64) -> bool
     ensures { λ r. ⌜ r ≡ breached house t count x previous first ⌝ }
 {
-    if (house.0 != t) | (house.1 != count) {
+    if (house / 100 != t) | (house / 10 % 10 != count) {
         return false;
     }
-    let rule = house.2;
-    breaks(rule, x, previous, first)
+    breaks(house % 10, x, previous, first)
 }
 
 // Whether real number `count` of a type, after `previous` and before that `first`, breaks a house rule.

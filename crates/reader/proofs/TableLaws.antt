@@ -7,8 +7,8 @@ use native.Mathlib.Numerals.{add-one}
 use native.Mathlib.Omega.{arith}
 use borrow.Author.Tests.{le-leb, lt-leb}
 use lib.Ieee.{Float}
-use lib.ListN.{length, length-replicate, getD, set, replicate, drop, drop-of-length-le}
-use lib.Seq.{drop-cons, set-at, append-snoc}
+use lib.ListN.{length, length-replicate, getD, set, replicate, take, drop, drop-of-length-le}
+use lib.Seq.{drop-cons, set-at, append-snoc, paste, paste-suc, sets, sets-eq, take-length}
 use Rattle.laws.proofs.BoolLaws.{cond-elim}
 use Rattle.laws.specs.Bytes.{same}
 use Rattle.reader.specs.Entered.{toldIn}
@@ -83,7 +83,11 @@ pub back-none : (D : List Float) (u j : ℕ) → u < j → zeroReal ≡ back D u
 unfolding back
 back-none D u j h = rw (lt-leb j u h)
 
--- ---- a row
+-- ---- a row, copied number by number
 
-pub add-nine : (n : ℕ) → n + 9 ≡ suc (suc (suc (suc (suc (suc (suc (suc (suc n))))))))
-add-nine n = omega arith
+module _ (T row : List ℕ) (at : ℕ) (fits : at + length row ≤ length T) where
+  pub put-more : (i d : ℕ) (t : List ℕ) → i < length row → t ≡ paste T at row i → set t (at + i) (getD row i d) ≡ paste T at row (i + 1)
+  put-more i d t h e = ap (λ (z : List ℕ). set z (at + i) (getD row i d)) e ∙ paste-suc T at row i d (omega arith) h ∙ ap (paste T at row) (sym (add-one i))
+
+  pub put-all : (i : ℕ) (t : List ℕ) → i ≡ length row → t ≡ paste T at row i → t ≡ sets T at row
+  put-all i t h e = e ∙ ap (paste T at row) h ∙ (λ j. take at T ++ take-length row j ++ drop (at + length row) T) ∙ sym (sets-eq row T at fits)

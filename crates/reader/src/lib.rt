@@ -113,11 +113,13 @@ fn apply(
     match step {
         Step::Going(t) => Turn::Going(t),
         Step::Real(x, t) => {
-            table::store(reals, s.used, x);
+            let at = s.used;
+            reals[at] = x;
             Turn::Going(t)
         }
         Step::Last(x, t) => {
-            table::store(reals, s.used, x);
+            let at = s.used;
+            reals[at] = x;
             Turn::Going(finish(text, records, t))
         }
         Step::Complete(t) => Turn::Going(finish(text, records, t)),

@@ -1,7 +1,7 @@
 // What the reader does with the lent tables.
 ghost use mathlib.Core.Path.{_≡_};
 ghost use Prim.Native.Nat.{_+_, _*_, _≤_, _<_};
-ghost use lib.ListN.{length, replicate, set};
+ghost use lib.ListN.{length, replicate};
 ghost use lib.Seq.{sets};
 ghost use Rattle.laws.specs.Bytes.{part};
 ghost use Rattle.scene.specs.HouseRules.{zeroReal};
@@ -148,16 +148,23 @@ fn put_row(records: &mut [u32], n: usize, d: Draft)
     ensures { λ _. ⌜ now (records .exit) ≡ sets (now (records .entry)) (n * width) (fields (recordFrom d)) ⌝ }
 {
     let at = n * 10;
-    records[at] = d.kind;
-    records[at + 1] = d.modifier;
-    records[at + 2] = d.target;
-    records[at + 3] = d.name;
-    records[at + 4] = d.size;
-    records[at + 5] = d.string;
-    records[at + 6] = d.strings;
-    records[at + 7] = d.real;
-    records[at + 8] = d.reals;
-    records[at + 9] = 0;
+    let row = [
+        d.kind,
+        d.modifier,
+        d.target,
+        d.name,
+        d.size,
+        d.string,
+        d.strings,
+        d.real,
+        d.reals,
+        0,
+    ];
+    let mut i = 0;
+    while i < 10 {
+        records[at + i] = row[i];
+        i += 1;
+    }
 }
 
 // Tells the record of a number which is the next of its name; 0 is no record.
@@ -181,11 +188,4 @@ pub fn enter(text: &[u8], records: &mut [u32], count: usize, d: Draft)
     let number = narrow(count + 1);
     tell_next(records, earlier, number);
     put_row(records, count, d);
-}
-
-pub fn store(reals: &mut [f64], at: usize, x: f64)
-    requires { ⌜ at < length (now reals) ⌝ }
-    ensures { λ _. ⌜ now (reals .exit) ≡ set (now (reals .entry)) at x ⌝ }
-{
-    reals[at] = x;
 }

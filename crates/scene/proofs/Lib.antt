@@ -19,4 +19,3 @@ pub mod TurnLaws
 pub mod ReadingLaws
 pub mod PropertyLaws
 pub mod MeaningLaws
-pub mod SampleLaws

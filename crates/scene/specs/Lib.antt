@@ -10,4 +10,3 @@ pub mod Record
 pub mod Told
 pub mod Block
 pub mod Exchange
-pub mod Samples

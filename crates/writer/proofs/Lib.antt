@@ -5,5 +5,7 @@ pub mod StatementLaws
 pub mod ReadBackLaws
 pub mod RowLaws
 pub mod PutsLaws
+pub mod LineLaws
 pub mod TableLaws
 pub mod AnswerLaws
+pub mod AgainLaws

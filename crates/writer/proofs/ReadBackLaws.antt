@@ -1,5 +1,5 @@
 -- The tidy text of an accepted text reads back: the same statements, so the same table but for places, and the same tidy text.
-use mathlib.Core.List.{List, [], _∷_, _++_}
+use mathlib.Core.List.{List, [], _∷_, map, _++_}
 use mathlib.Core.Path.{_≡_, refl, ap, sym, _∙_, subst}
 use Prim.Native.Nat.{_≤_}
 use borrow.Author.Tests.{le-leb}
@@ -17,7 +17,7 @@ use Rattle.scene.specs.Settings.{Settings}
 use Rattle.scene.specs.Statement.{Statement}
 use Rattle.writer.proofs.ProperLaws.{AllProper, StepProper, parse-proper}
 use Rattle.writer.proofs.StatementLaws.{statement-read}
-use Rattle.writer.specs.ReadBack.{withoutPlaces, allWithoutPlaces, ReadBackLaw}
+use Rattle.writer.specs.ReadBack.{withoutPlaces, ReadBackLaw}
 use Rattle.writer.specs.Tidy.{statementText, tidy}
 
 -- ---- the statements
@@ -58,21 +58,20 @@ placelessFrom : List Statement → List Statement → List Record
 placelessFrom later [] = []
 placelessFrom later (s ∷ d) = placelessFrom (later ++ s ∷ []) d ++ placeless later s d ∷ []
 
-without-snoc : (rs : List Record) (r : Record) → allWithoutPlaces (rs ++ r ∷ []) ≡ allWithoutPlaces rs ++ withoutPlaces r ∷ []
-unfolding allWithoutPlaces
+without-snoc : (rs : List Record) (r : Record) → map withoutPlaces (rs ++ r ∷ []) ≡ map withoutPlaces rs ++ withoutPlaces r ∷ []
 without-snoc [] r = refl
 without-snoc (s ∷ rs) r = ap {B = List Record} (λ (x : List Record). withoutPlaces s ∷ x) (without-snoc rs r)
 
 -- without places the table says no more than the statements
-table-placeless : (later es : List Entry) → allWithoutPlaces (recordsFrom later es) ≡ placelessFrom (statements later) (statements es)
-unfolding recordsFrom recordOf allWithoutPlaces placelessFrom statements
+table-placeless : (later es : List Entry) → map withoutPlaces (recordsFrom later es) ≡ placelessFrom (statements later) (statements es)
+unfolding recordsFrom recordOf placelessFrom statements
 table-placeless later [] = refl
 table-placeless later (e ∷ es) =
     without-snoc (recordsFrom (later ++ e ∷ []) es) (recordOf later e es)
     ∙ ap {B = List Record} (λ (x : List Record). x ++ placeless (statements later) (e .statement) (statements es) ∷ [])
     (table-placeless (later ++ e ∷ []) es ∙ ap (λ (l : List Statement). placelessFrom l (statements es)) (statements-append later (e ∷ [])))
 
-same-table : (es es′ : List Entry) → statements es ≡ statements es′ → allWithoutPlaces (records es) ≡ allWithoutPlaces (records es′)
+same-table : (es es′ : List Entry) → statements es ≡ statements es′ → map withoutPlaces (records es) ≡ map withoutPlaces (records es′)
 unfolding records statements
 same-table es es′ e = table-placeless [] es ∙ ap (placelessFrom []) e ∙ sym (table-placeless [] es′)
 
@@ -81,4 +80,4 @@ same-table es es′ e = table-placeless [] es ∙ ap (placelessFrom []) e ∙ sy
 pub read-back : ReadBackLaw
 read-back r text es e fits =
     let b = tidy-reads r (statements es) (accepted-proper r text es e) (accept-forth r text es e .2) fits in
-    record { entries = b .0; reads = b .1; table = same-table (b .0) es (b .2); reals = ap reals (b .2); again = ap tidy (b .2) }
+    record { entries = b .0; reads = b .1; meant = b .2; table = same-table (b .0) es (b .2); reals = ap reals (b .2) }

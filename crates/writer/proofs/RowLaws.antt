@@ -4,7 +4,9 @@ use mathlib.Core.List.{List, [], _∷_, _++_, append-assoc}
 use mathlib.Core.Option.{some}
 use mathlib.Core.Path.{_≡_, refl, ap, sym, _∙_, subst}
 use Prim.Native.Nat.{ℕ, zero, suc, _+_, _-_, _≤_, _<_}
+use native.Mathlib.Numerals.{add-one}
 use native.Mathlib.Omega.{arith}
+use borrow.Author.Tests.{eq-eqb, ne-eqb}
 use lib.Dec.{eqb, eqb·suc-zero}
 use lib.ListN.{length, length-append}
 use Rattle.laws.proofs.BytesLaws.{same-eq}
@@ -56,6 +58,19 @@ skipped-more text at zero h e = absurd (omega arith)
 skipped-more text at (suc n) h e = let m : suc n - 1 ≡ n = omega arith in λ i. behindWords text (e i) (m i)
 
 -- ---- a record's text, from what text and table say of it
+
+-- a record is a primitive or an alias
+module _ (text : Bytes) (table : List ℕ) (r : Record) where
+  pub as-primitive : r .target ≡ 0 → primitiveText text table r ≡ recordText text table r
+  as-primitive e = sym (ap (λ (b : Bool). cond b (primitiveText text table r) (aliasText text table r)) (eq-eqb (r .target) 0 e))
+
+  pub as-alias : (r .target ≡ 0 → ⊥) → aliasText text table r ≡ recordText text table r
+  as-alias e = sym (ap (λ (b : Bool). cond b (primitiveText text table r) (aliasText text table r)) (ne-eqb (r .target) 0 e))
+
+-- one record more
+pub one-record : (text : Bytes) (table : List ℕ) (n : ℕ) → recordTexts text table n ++ recordText text table (recordIn table (n + 1)) ≡ recordTexts text table (n + 1)
+unfolding recordTexts
+one-record text table n = rw add-one
 
 -- what they must say for a statement's body, and then the text is the statement's
 module _ (text : Bytes) (table : List ℕ) where

@@ -70,6 +70,15 @@ used-reals n k text (accepted es) e =
     let f = fit-forth (rooms n k) (statements es) (accept-forth (rooms n k) text es e .2) in
     omega (arith, f .2, reals-length (statements es))
 
+-- the tables that a reading leaves are as long as those that were lent
+pub image-length : (n k : ℕ) (text : Bytes) → length (recordImage n (read (rooms n k) text)) ≡ n
+unfolding recordImage
+image-length n k text = sym (filled-length 0 n (flat (records (entries (read (rooms n k) text)))) (used-numbers n k text _ refl))
+
+pub doubles-length : (n k : ℕ) (text : Bytes) → length (realImage k (read (rooms n k) text)) ≡ k
+unfolding realImage
+doubles-length n k text = sym (filled-length zeroReal k (realTable (entries (read (rooms n k) text))) (used-reals n k text _ refl))
+
 module _ (table : List ℕ) (doubles : List Float) where
   fresh-refused : (x : Reading) (n p : ℕ) → reader.Refused n p ≡ answered x → Refused n p ≡ freshOf table doubles x
   fresh-refused (refused m q) n p e =

@@ -36,6 +36,7 @@ outcomeOf records reals room (reading.refused n p) = refused n p
 outcomeOf records reals room (accepted es) =
     cond (tablesMatch records reals (accepted es)) (fitted room (tidy (statements es))) (refused 22 0)
 
+-- what a call comes to, of a text, two lent tables and an output of so many bytes
 abbrev pub tidied : Bytes → (records : List ℕ) → (reals : List Float) → (room : ℕ) → Outcome
 tidied text records reals room = outcomeOf records reals room (readInto text records reals)
 

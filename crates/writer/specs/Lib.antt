@@ -1,6 +1,6 @@
 pub mod Tidy
-pub mod ReadBack
 pub mod Row
 pub mod Answer
+pub mod ReadBack
 pub mod Writing
 pub mod Fresh

@@ -1,12 +1,13 @@
 -- The tidy text read back.
-use mathlib.Core.List.{List, [], _∷_}
+use mathlib.Core.List.{List, map}
 use mathlib.Core.Path.{_≡_}
-use Prim.Native.Nat.{_≤_}
+use Prim.Native.Nat.{ℕ, _≤_}
 use lib.ListN.{length}
 use Rattle.laws.specs.Bytes.{Bytes}
 use Rattle.scene.specs.Reading.{Entry, statements, accepted, read}
-use Rattle.scene.specs.Record.{Record, records, realTable}
+use Rattle.scene.specs.Record.{Record, records, realTable, recordImage, realImage, rooms}
 use Rattle.scene.specs.Settings.{Settings}
+use Rattle.writer.specs.Answer.{Outcome, fitted, tidied}
 use Rattle.writer.specs.Tidy.{tidy}
 
 -- "the same table but for places": of a record's ten numbers, the name's place and the place of the first string are places
@@ -24,19 +25,28 @@ withoutPlaces r = record {
   next = r .next;
 }
 
-unfoldable pub allWithoutPlaces : List Record → List Record
-allWithoutPlaces [] = []
-allWithoutPlaces (r ∷ rs) = withoutPlaces r ∷ allWithoutPlaces rs
-
--- what comes of reading the tidy text of es: "the same table but for places", the same reals, and "writing it again gives the
--- same bytes"
+-- what comes of reading the tidy text of es: the same statements, "the same table but for places", and the same reals
 pub record ReadsBack (r : Settings) (es : List Entry) : Type 0 where
   pub entries : List Entry
   pub reads : read r (tidy (statements es)) ≡ accepted entries
-  pub table : allWithoutPlaces (records entries) ≡ allWithoutPlaces (records es)
+  pub meant : statements entries ≡ statements es
+  pub table : map withoutPlaces (records entries) ≡ map withoutPlaces (records es)
   pub reals : realTable entries ≡ realTable es
-  pub again : tidy (statements entries) ≡ tidy (statements es)
 
 -- "Where the result is at most 65,536 bytes, reading it back at the same lent sizes"
 abbrev pub ReadBackLaw : Type 0
 ReadBackLaw = (r : Settings) (text : Bytes) (es : List Entry) → read r text ≡ accepted es → length (tidy (statements es)) ≤ 65536 → ReadsBack r es
+
+-- a call on a text and on the tables that reading it leaves in so many numbers and reals
+abbrev pub writtenFrom : Bytes → (numbers reals room : ℕ) → Outcome
+writtenFrom text n m room =
+    let x = read (rooms n m) text in
+    tidied text (recordImage n x) (realImage m x) room
+
+-- "From a text and its accepted tables we want tidy text"; "writing it again gives the same bytes"
+pub record WritesAgain (text : Bytes) (n m room : ℕ) (es : List Entry) : Type 0 where
+  pub written : writtenFrom text n m room ≡ fitted room (tidy (statements es))
+  pub again : writtenFrom (tidy (statements es)) n m room ≡ writtenFrom text n m room
+
+abbrev pub WriteAgainLaw : Type 0
+WriteAgainLaw = (text : Bytes) (n m room : ℕ) (es : List Entry) → read (rooms n m) text ≡ accepted es → length (tidy (statements es)) ≤ 65536 → WritesAgain text n m room es

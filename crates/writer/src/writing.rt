@@ -22,8 +22,7 @@ fn put(out: &mut [u8], c: Cursor, new: &[u8]) -> Cursor
 {
     let room = out.len() - lexer::least(c.at, out.len());
     let full = c.full | (room < new.len());
-    let at = c.at + lexer::least(new.len(), room);
-    buffer::put_bytes(out, c.at, new);
+    let at = buffer::put_bytes(out, c.at, new);
     Cursor { at, full }
 }
 

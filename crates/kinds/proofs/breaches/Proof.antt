@@ -3,9 +3,7 @@ use mathlib.Core.Path.{_≡_, sym, _∙_}
 use Prim.Native.Nat.{_-_}
 use borrow.Author.Needs.{needs}
 use lib.ListN.{drop}
-use Rattle.laws.specs.Bytes.{same}
 use Rattle.scene.specs.HouseRules.{breachAt, houseRules}
-use Rattle.scene.specs.Types.{numberFrom, typeNumber}
 use Rattle.kinds.proofs.HouseLaws.{breach-end, breach-hit, breach-miss, no-rule}
 use Rattle.kinds.proofs.breaches.Statement.{statement}
 use Rattle.kinds.proofs.breaches.Tie as tie
@@ -25,15 +23,14 @@ loop-holds c = search needs
 mul-house : tie.Need-mul-house Inv-loop μ-loop
 mul-house c = search needs
 
-array-copy-out-house : tie.Need-array-copy-out-house Inv-loop μ-loop
-array-copy-out-house c = search needs
+array-read-house : tie.Need-array-read-house Inv-loop μ-loop
+array-read-house c = search needs
 
 breaks-house-requires : tie.Need-breaks-house-requires Inv-loop μ-loop
 breaks-house-requires c κs = search needs
 
 returns-2 : tie.Need-returns-2 Inv-loop μ-loop
-unfolding typeNumber numberFrom same
-returns-2 c = sym (breach-hit _ _ _ _ _ _ _ (c .before .before .before .loop-test .taken) (sym (c .before .breaks-house .ensures) ∙ c .if2 .taken)) ∙ c .before .before .before .before .loop .inv
+returns-2 c = sym (breach-hit _ _ _ _ _ _ _ (c .before .before .loop-test .taken) (sym (c .before .breaks-house .ensures) ∙ c .if2 .taken)) ∙ c .before .before .before .loop .inv
 
 add-i : tie.Need-add-i Inv-loop μ-loop
 add-i c = search needs
@@ -42,8 +39,7 @@ loop-less : tie.Need-loop-less Inv-loop μ-loop
 loop-less c = search needs
 
 loop-again : tie.Need-loop-again Inv-loop μ-loop
-unfolding typeNumber numberFrom same
-loop-again c = breach-miss _ _ _ _ _ _ _ (c .before .before .before .loop-test .taken) (sym (c .before .breaks-house .ensures) ∙ c .if2 .left) ∙ c .before .before .before .before .loop .inv
+loop-again c = breach-miss _ _ _ _ _ _ _ (c .before .before .loop-test .taken) (sym (c .before .breaks-house .ensures) ∙ c .if2 .left) ∙ c .before .before .before .loop .inv
 
 returns-3 : tie.Need-returns-3 Inv-loop μ-loop
 returns-3 c = sym (breach-end _ _ _ _ _ _ (c .loop-test .left)) ∙ c .before .loop .inv
@@ -57,7 +53,7 @@ breaches-spec =
     returns
     loop-holds
     mul-house
-    array-copy-out-house
+    array-read-house
     breaks-house-requires
     returns-2
     add-i

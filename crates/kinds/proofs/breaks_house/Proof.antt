@@ -1,6 +1,7 @@
 -- `kinds::breaks_house` meets its contract.
 use mathlib.Core.Bool.{Bool, true, false, not, _&&_, _||_, true≢false, false≢true}
 use mathlib.Core.Path.{_≡_, refl, _∙_}
+use Prim.Native.Nat.{_/_, _%_}
 use lib.Dec.{eqb}
 use Rattle.kinds.specs.Rules.{broken}
 use Rattle.kinds.proofs.breaks_house.Statement.{statement}
@@ -19,13 +20,13 @@ this false b x h = absurd (true≢false h)
 
 returns : tie.Need-returns
 returns c =
-    let a = c .before .before .before .args in
-    other (eqb (a .house .0) (a .t)) (eqb (a .house .1) (a .count)) (broken (a .house .2) (a .x) (a .previous) (a .first)) (c .if1 .taken)
+    let a = c .before .args in
+    other (eqb (a .house / 100) (a .t)) (eqb (a .house / 10 % 10) (a .count)) (broken (a .house % 10) (a .x) (a .previous) (a .first)) (c .if1 .taken)
 
 returns-2 : tie.Need-returns-2
 returns-2 c =
-    let a = c .before .before .before .before .args in
-    c .breaks .ensures ∙ this (eqb (a .house .0) (a .t)) (eqb (a .house .1) (a .count)) (broken (a .house .2) (a .x) (a .previous) (a .first)) (c .before .if1 .left)
+    let a = c .before .before .args in
+    c .breaks .ensures ∙ this (eqb (a .house / 100) (a .t)) (eqb (a .house / 10 % 10) (a .count)) (broken (a .house % 10) (a .x) (a .previous) (a .first)) (c .before .if1 .left)
 
 pub breaks-house-spec : {M : Type 1} → statement M
 breaks-house-spec = tie.close (tie.spec returns (λ c κs. tt) returns-2)

@@ -1,19 +1,15 @@
--- `kinds::strings_allowed` meets its contract.
-use mathlib.Core.Path.{ap, _∙_}
-use borrow.Author.Needs.{needs}
-use Rattle.scene.specs.Types.{Rule, allows, stringsAllowed}
+-- `kinds::strings_allowed` meets its contract: the table has the types' rules, as antt computes.
+use mathlib.Core.Path.{_∙_}
+use native.Mathlib.Omega.{arith}
+use Rattle.kinds.proofs.CountLaws.{strings-in, any-strings}
 use Rattle.kinds.proofs.strings_allowed.Statement.{statement}
 use Rattle.kinds.proofs.strings_allowed.Tie as tie
 
-counts-of-requires : tie.Need-counts-of-requires
-counts-of-requires c κs = search needs
-
-allowed-requires : tie.Need-allowed-requires
-allowed-requires c κs = search needs
-
 returns : tie.Need-returns
-unfolding stringsAllowed
-returns c = c .allowed .ensures ∙ ap (λ (r : Rule × Rule). allows (r .0) (c .before .before .args .n)) (c .before .counts-of .ensures)
+returns c = any-strings _ _ _ (c .before .row .ensures) (c .if1 .taken)
+
+returns-2 : tie.Need-returns-2
+returns-2 c = c .allowed .ensures ∙ strings-in _ _ _ (c .before .before .row .ensures) _ (c .before .if1 .left)
 
 pub strings-allowed-spec : {M : Type 1} → statement M
-strings-allowed-spec = tie.close (tie.spec counts-of-requires allowed-requires returns)
+strings-allowed-spec = tie.close (tie.spec (λ c κs. tt) returns (λ c. omega arith) (λ c. omega arith) (λ c κs. tt) returns-2)

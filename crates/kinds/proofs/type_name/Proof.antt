@@ -10,15 +10,18 @@ row-requires c κs = search needs
 returns : tie.Need-returns
 returns c = past-table _ _ (c .before .before .before .row .ensures) (c .before .before .if1 .taken)
 
-mul-result : tie.Need-mul-result
-mul-result c = search needs
+spelling-requires : tie.Need-spelling-requires
+spelling-requires c κs = search needs
 
-array-copy-out-result : tie.Need-array-copy-out-result
-array-copy-out-result c = search needs
+mul-t9 : tie.Need-mul-t9
+mul-t9 c = search needs
+
+array-read-t12 : tie.Need-array-read-t12
+array-read-t12 c = search needs
 
 returns-2 : tie.Need-returns-2
-returns-2 c = in-table _ _ (c .before .before .row .ensures) _ (c .before .if1 .left)
+returns-2 c = in-table _ _ (c .before .before .row .ensures) _ _ (c .spelling .ensures) (c .before .if1 .left)
 
 pub type-name-spec : {M : Type 1} → statement M
 type-name-spec =
-    tie.close (tie.spec row-requires returns mul-result array-copy-out-result returns-2)
+    tie.close (tie.spec row-requires returns spelling-requires mul-t9 array-read-t12 returns-2)

@@ -6,7 +6,7 @@ use Rattle.kribbelsteen.proofs.ray_in.Tie as tie
 
 returns : tie.Need-returns
 unfolding rayIn
-returns c = cc
+returns c = λ i. record { origin = c .before .before .before .before .vector .ensures i; direction = c .vector2 .ensures i }
 
 pub ray-in-spec : {M : Type 1} → statement M
 ray-in-spec = tie.close (tie.spec (λ c. search needs) (λ c. search needs) (λ c. search needs) (λ c κs. tt) (λ c. search needs) (λ c. search needs) (λ c. search needs) (λ c κs. tt) returns)

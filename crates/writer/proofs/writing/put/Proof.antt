@@ -1,7 +1,7 @@
 -- `writer::writing::put` meets its contract.
 use mathlib.Core.Bool.{_||_}
 use mathlib.Core.Path.{_≡_}
-use Prim.Native.Nat.{_+_, _-_, min}
+use Prim.Native.Nat.{_-_}
 use native.Mathlib.Omega.{arith}
 use lib.Dec.{ltb}
 use lib.ListN.{length}
@@ -15,12 +15,6 @@ least-requires c κs = search needs
 sub-room : tie.Need-sub-room
 sub-room c = search needs
 
-least-requires-2 : tie.Need-least-requires-2
-least-requires-2 c κs = search needs
-
-add-at : tie.Need-add-at
-add-at c = omega arith
-
 put-bytes-requires : tie.Need-put-bytes-requires
 put-bytes-requires c κs = search needs
 
@@ -29,12 +23,11 @@ same-length c = search needs
 
 returns : tie.Need-returns
 returns c =
-    let f = c .before .before .before .before .before in
-    let l = f .before .before in
+    let p = c .before .before .put-bytes in
+    let l = c .before .before .before .before .before in
     let a = l .before .before .before .args in
     let room : length (a .out .now) - l .least .result ≡ length (a .out .now) - a .c .at = omega (arith, l .least .ensures) in
-    let at : a .c .at + f .least2 .result ≡ a .c .at + min (length (a .new .now)) (length (a .out .now) - a .c .at) = omega (arith, l .least .ensures, f .least2 .ensures) in
-    record { text = c .before .before .put-bytes .ensures .0; cursor = λ i. record { at = at i; full = a .c .full || ltb (room i) (length (a .new .now)) } }
+    record { text = p .ensures .0; cursor = λ i. record { at = p .ensures .1 i; full = a .c .full || ltb (room i) (length (a .new .now)) } }
 
 pub put-spec : {M : Type 1} → statement M
-put-spec = tie.close (tie.spec least-requires sub-room least-requires-2 add-at put-bytes-requires same-length returns)
+put-spec = tie.close (tie.spec least-requires sub-room put-bytes-requires same-length returns)

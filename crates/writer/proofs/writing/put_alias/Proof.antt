@@ -4,7 +4,8 @@ use mathlib.Core.Path.{ap}
 use Rattle.laws.specs.Bytes.{Bytes, byte, bytes}
 use Rattle.scene.specs.Reading.{newline}
 use Rattle.scene.specs.Record.{recordIn}
-use Rattle.writer.proofs.PutsLaws.{puts-more, puts-as, spaced-more}
+use Rattle.writer.proofs.LineLaws.{spaced-more}
+use Rattle.writer.proofs.PutsLaws.{puts-more, puts-as}
 use Rattle.writer.specs.Row.{linkWord, nameOf}
 use Rattle.writer.specs.Tidy.{spaced}
 use borrow.Author.Needs.{needs}

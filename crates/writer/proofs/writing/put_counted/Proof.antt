@@ -5,7 +5,8 @@ use Prim.Native.Nat.{ℕ}
 use Rattle.buffer.specs.Decimal.{decimal}
 use Rattle.scene.specs.Reading.{newline}
 use Rattle.scene.specs.Told.{wordsFrom}
-use Rattle.writer.proofs.PutsLaws.{puts-more, puts-as, words-length}
+use Rattle.writer.proofs.LineLaws.{words-length}
+use Rattle.writer.proofs.PutsLaws.{puts-more, puts-as}
 use Rattle.writer.specs.Tidy.{line, spaced}
 use borrow.Author.Needs.{needs}
 use Rattle.writer.proofs.writing.put_counted.Statement.{statement}

@@ -2,7 +2,8 @@
 use mathlib.Core.List.{_∷_, _++_}
 use Rattle.laws.specs.Bytes.{byte}
 use Rattle.scene.specs.Record.{recordIn}
-use Rattle.writer.proofs.PutsLaws.{puts-more, puts-as, spaced-two}
+use Rattle.writer.proofs.LineLaws.{spaced-two}
+use Rattle.writer.proofs.PutsLaws.{puts-more, puts-as}
 use Rattle.writer.specs.Row.{linkWord}
 use borrow.Author.Needs.{needs}
 use Rattle.writer.proofs.writing.put_head.Statement.{statement}

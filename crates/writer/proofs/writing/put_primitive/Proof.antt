@@ -4,7 +4,8 @@ use mathlib.Core.Path.{_≡_, ap, _∙_}
 use Prim.Native.Nat.{ℕ, _+_}
 use Rattle.scene.specs.Record.{recordIn}
 use Rattle.scene.specs.Told.{wordsFrom}
-use Rattle.writer.proofs.PutsLaws.{puts-more, puts-as, no-integers}
+use Rattle.writer.proofs.LineLaws.{no-integers}
+use Rattle.writer.proofs.PutsLaws.{puts-more, puts-as}
 use Rattle.writer.specs.Row.{behindWords, stringWords, realWords}
 use Rattle.writer.specs.Tidy.{counted}
 use borrow.Author.Needs.{needs}

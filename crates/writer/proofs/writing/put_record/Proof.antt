@@ -1,7 +1,8 @@
 -- `writer::writing::put_record` meets its contract.
 use mathlib.Core.Path.{sym, _∙_}
 use Rattle.scene.specs.Record.{recordIn}
-use Rattle.writer.proofs.PutsLaws.{puts-as, as-primitive, as-alias}
+use Rattle.writer.proofs.PutsLaws.{puts-as}
+use Rattle.writer.proofs.RowLaws.{as-primitive, as-alias}
 use borrow.Author.Needs.{needs}
 use Rattle.writer.proofs.writing.put_record.Statement.{statement}
 use Rattle.writer.proofs.writing.put_record.Tie as tie

@@ -2,7 +2,8 @@
 use mathlib.Core.Path.{_≡_}
 use Prim.Native.Nat.{_-_, _≤_}
 use native.Mathlib.Omega.{arith}
-use Rattle.writer.proofs.PutsLaws.{puts-none, puts-more, puts-as, puts-length, one-record}
+use Rattle.writer.proofs.PutsLaws.{puts-none, puts-more, puts-as, puts-length}
+use Rattle.writer.proofs.RowLaws.{one-record}
 use Rattle.writer.specs.Row.{recordTexts}
 use Rattle.writer.specs.Writing.{Puts}
 use borrow.Author.Needs.{needs}

@@ -2,7 +2,8 @@
 use mathlib.Core.List.{_∷_}
 use Rattle.laws.specs.Bytes.{byte}
 use Rattle.scene.specs.Told.{wordsFrom}
-use Rattle.writer.proofs.PutsLaws.{puts-length, PutsUpTo, none-yet, some-more, all-put, no-words, next-word}
+use Rattle.writer.proofs.LineLaws.{no-words, next-word}
+use Rattle.writer.proofs.PutsLaws.{puts-length, PutsUpTo, none-yet, some-more, all-put}
 use Rattle.writer.specs.Tidy.{spaced}
 use borrow.Author.Needs.{needs}
 use Rattle.writer.proofs.writing.put_words.Statement.{statement}

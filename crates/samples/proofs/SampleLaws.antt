@@ -13,16 +13,16 @@ use Rattle.lexer.specs.Word.{wordFault, wordAt}
 use Rattle.numeral.specs.Count.{countOf, digits}
 use Rattle.numeral.specs.Digits.{isDigit, valueFrom}
 use Rattle.numeral.specs.Numeral.{numeralOf, wellFormed, isMantissa, isExponent, mantissa, exponent, before, behind, has, indexOf, isPoint, isMark, isSign, negative, unsigned, coefficient, up, down, inRange, nearest, numberOf}
 use Rattle.scene.proofs.ExchangeLaws.{exchange-law}
 use Rattle.scene.specs.Block.{inBlock, given, referred, stands, share, shift}
 use Rattle.scene.specs.Exchange.{Exchange, Exchanged, exchangeShift, statementsIn}
 use Rattle.scene.specs.HouseRules.{breach, breachAt, realAt, isAbove0, isAtLeast0, is0}
 use Rattle.scene.specs.Links.{gives, hits, found, resolve, firstLater, realsUsed}
 use Rattle.scene.specs.Reading.{Entry, read, run, statements}
 use Rattle.scene.specs.Record.{entries, records, recordsFrom, recordOf, stringPlace, nth, realTable, reals}
-use Rattle.scene.specs.Samples.{roomy, lamp, wall, panel, oak, grey, desk}
+use Rattle.samples.specs.Samples.{roomy, lamp, wall, panel, oak, grey, desk}
 use Rattle.scene.specs.Told.{tells, wordsFrom, renumbered}
 use Rattle.scene.specs.Types.{typeNumber, numberFrom, kindOf, stringsAllowed, realsAllowed}
 use Rattle.laws.specs.Runs as runs
 
 -- unfolding this unfolds all that reading a text computes with

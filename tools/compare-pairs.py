@@ -205,6 +205,8 @@ def every_pair(rng, count, made):
     limits = texts.limits()
     yield limits["full"], limits["full"]
     yield limits["full"], limits["full"].replace(b" 1\n", b" 2\n")
+    # As many lines as two scenes can have.
+    yield texts.named(b"l", 1024), texts.named(b"r", 1024)
     for text in limits.values():
         yield text, b""
         yield b"", text

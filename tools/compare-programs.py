@@ -1,6 +1,7 @@
 #!/usr/bin/env python3
 """Whether the programs list and finishes print what tools/scene.py does, and tidy what tools/tidy.py does, on texts made from a
-seed and on those at the limits; and whether a tidy text is its own, with the same listing.
+seed and on those at the limits, each on standard input; whether a tidy text is its own, with the same listing; and whether tidy
+alone says its refusals on standard error too.
 
     tools/compare-programs.py [COUNT [SEED [FOLDER]]]
 
@@ -48,8 +49,9 @@ for text in every_text(seed, count):
     if not neat.startswith(b"refused="):
         asked += [("list", neat, right), ("tidy", neat, neat)]
     for program, text, right in asked:
-        run = subprocess.run([folder / program], input=text, stdout=subprocess.PIPE)
-        if run.returncode != 0 or run.stdout != right:
+        said = right if program == "tidy" and right.startswith(b"refused=") else b""
+        run = subprocess.run([folder / program], input=text, capture_output=True)
+        if run.returncode != 0 or run.stdout != right or run.stderr != said:
             differ += 1
             if differ <= 5:
                 print("%s differs on %r: %r, not %r" % (program, text[:300], run.stdout[:300], right[:300]))

@@ -2,7 +2,8 @@
 """Scene texts to try a reader on, valid and damaged, made from a seed: texts(seed, count, most) yields (text, record_room, real_room)
 with at most so many statements each. Every reason for refusing turns up among them, 6 and 13 by the smaller rooms, but not 1.
 
-    tools/texts.py NAME      writes a text at or just past a limit of document 01: see limits"""
+    tools/texts.py NAME      writes a text at or just past a limit of document 01: see limits; or a stored one of two saves that
+                             have no name in common, left or right"""
 import random
 import sys
 
@@ -113,6 +114,11 @@ def packed(size):
     return b" ".join([front, *words]) + back
 
 
+def named(first, count):
+    """An accepted text of so many primitives, each with a name of its own that begins with these bytes."""
+    return b"".join(b"void antimatter %s%d 1 void 0 0\n" % (first, n) for n in range(count))
+
+
 def limits():
     """All limits met at once, and each alone just past."""
     return dict(
@@ -125,4 +131,4 @@ def limits():
 
 
 if __name__ == "__main__":
-    sys.stdout.buffer.write(limits()[sys.argv[1]])
+    sys.stdout.buffer.write(dict(limits(), left=named(b"l", 600), right=named(b"r", 600))[sys.argv[1]])

@@ -12,7 +12,7 @@ use Rattle.scene.specs.Exchange.{Exchange}
 use Rattle.scene.specs.HouseRules.{zeroReal}
 use Rattle.scene.specs.Reading.{Entry, Reading, accepted, read, refused, statements}
 use Rattle.scene.specs.Record.{flat, realImage, realTable, reals, recordImage, records, recordsFrom}
-use Rattle.scene.specs.Settings.{Settings}
+use Rattle.scene.specs.declared.Settings.{Settings}
 use Rattle.comparison.proofs.ExchangeLaws.{compare-exchange}
 use Rattle.comparison.proofs.RowsLaws.{rows-read}
 use Rattle.comparison.specs.Both.{ReadsBoth, beside, bothAnswer}

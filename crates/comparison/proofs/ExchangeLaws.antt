@@ -13,7 +13,7 @@ use Rattle.scene.specs.Block.{shift}
 use Rattle.scene.specs.Exchange.{Exchange, exchangeShift}
 use Rattle.scene.specs.Links.{gives, hits}
 use Rattle.scene.specs.Reading.{Entry, statements, accepted, read}
-use Rattle.scene.specs.Settings.{Settings}
+use Rattle.scene.specs.declared.Settings.{Settings}
 use Rattle.scene.specs.Statement.{Statement}
 use Rattle.scene.specs.Told.{Told, renumbered}
 use Rattle.comparison.proofs.NameLaws.{named, names, times-statements, keys-statements}

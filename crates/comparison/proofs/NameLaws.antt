@@ -7,7 +7,7 @@ use lib.Dec.{eqb}
 use lib.ListN.{length, length-map}
 use Rattle.laws.specs.Bytes.{Bytes, same}
 use Rattle.scene.specs.Reading.{Entry, statements, accepted, read}
-use Rattle.scene.specs.Settings.{Settings}
+use Rattle.scene.specs.declared.Settings.{Settings}
 use Rattle.scene.specs.Statement.{Statement}
 use Rattle.scene.specs.Told.{Told, told}
 use Rattle.comparison.proofs.RowsLaws.{row-told}

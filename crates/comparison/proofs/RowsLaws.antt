@@ -15,7 +15,7 @@ use Rattle.scene.proofs.TellsLaws.{At, at, nth-at, tells-told, read-read}
 use Rattle.scene.specs.HouseRules.{zeroReal}
 use Rattle.scene.specs.Reading.{Reading, Entry, statements, accepted, read}
 use Rattle.scene.specs.Record.{Record, records, nth, realTable, recordImage, realImage}
-use Rattle.scene.specs.Settings.{Settings}
+use Rattle.scene.specs.declared.Settings.{Settings}
 use Rattle.scene.specs.Told.{Told, tells, told, wordsFrom}
 use Rattle.comparison.specs.Key.{from}
 use Rattle.comparison.specs.Rows.{rowsIn, rowsTo, rowsOf}

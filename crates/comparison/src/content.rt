@@ -8,13 +8,13 @@ ghost use Rattle.comparison.specs.Key.{keyOf, sameKey};
 ghost use Rattle.comparison.specs.Rows.{rowsIn};
 ghost use Rattle.comparison.specs.Scan.{realsOf, stringsOf};
 use crate::names;
-use finish::KIND;
-use finish::MODIFIER;
-use finish::REAL;
-use finish::REALS;
-use finish::STRING;
-use finish::STRINGS;
-use finish::TARGET;
+use table::KIND;
+use table::MODIFIER;
+use table::REAL;
+use table::REALS;
+use table::STRING;
+use table::STRINGS;
+use table::TARGET;
 
 // Whether n words of one text agree with as many of another.
 fn same_words(a: &[u8], i: usize, b: &[u8], j: usize, n: usize) -> bool

@@ -63,12 +63,12 @@ pub fn read_both(
 {
     match reader::read(left, left_records, left_reals) {
         Answer::Refused(reason, place) => {
-            reader::clear(right_records, right_reals);
+            table::clear(right_records, right_reals);
             Both::Refused(Side::Left, reason, place)
         }
         Answer::Accepted(m, j) => match reader::read(right, right_records, right_reals) {
             Answer::Refused(reason, place) => {
-                reader::clear(left_records, left_reals);
+                table::clear(left_records, left_reals);
                 Both::Refused(Side::Right, reason, place)
             }
             Answer::Accepted(n, k) => Both::Read(m, j, n, k),

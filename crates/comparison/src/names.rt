@@ -10,14 +10,14 @@ ghost use Rattle.scene.specs.Record.{fieldIn};
 ghost use Rattle.comparison.specs.Key.{found, keyAt, lower, sameKey, times};
 ghost use Rattle.comparison.specs.Rows.{rowsIn};
 ghost use Rattle.comparison.specs.Scan.{LeastIn, better, nameAt, nthOf};
-use finish::NAME;
-use finish::NAME_LENGTH;
+use table::NAME;
+use table::NAME_LENGTH;
 
 // Number k, from 0, of record n, from 1; 0 where the table has none.
 pub fn number(records: &[u32], n: usize, k: usize) -> usize
     ensures { λ r. ⌜ r ≡ fieldIn (now (records .entry)) n k ⌝ }
 {
-    finish::field(records, n, k) as usize
+    table::field(records, n, k) as usize
 }
 
 // Whether name a comes before name b: the first byte that differs decides, and a prefix comes first.

@@ -6,11 +6,11 @@ use Prim.Native.Nat.{ℕ, zero, suc, _+_, _-_, _≤_, _<_}
 use native.Mathlib.Omega.{arith}
 use borrow.Author.Tests.{ltb-true}
 use lib.Dec.{eqb, ltb}
-use Rattle.finish.specs.Question.{numberRefusal}
+use Rattle.table.specs.Question.{numberRefusal}
+use Rattle.table.specs.View.{View, viewOf}
 use Rattle.finish.specs.Walk.{atLink, atType, walkFrom, finishOf}
 use Rattle.finish.specs.declared.Finish.{Finish}
 use Rattle.finish.specs.declared.Finish.the-variants.{Reached, Refused}
-use Rattle.scene.specs.Record.{recordIn}
 use Rattle.scene.specs.Types.{isMaterial, isType}
 
 -- the count of links of either answer
@@ -35,23 +35,23 @@ at-type b t m k f h g = go (isType t) (isMaterial t)
     go true false = g
     go false d = omega arith
 
-pub bounded : (table : List ℕ) (left k n : ℕ) → linksOf (walkFrom table left k n) ≤ k + (n - 1)
+pub bounded : (v : View) (left k n : ℕ) → linksOf (walkFrom v left k n) ≤ k + (n - 1)
 unfolding walkFrom
-bounded table zero k n = at-link (k + (n - 1)) (recordIn table n .modifier) n k (Refused 19 k) (omega arith) (λ a b. omega arith)
-bounded table (suc left) k n =
-    let m = recordIn table n .modifier in
-    let ih = bounded table left (suc k) m in
-    at-link (k + (n - 1)) m n k (atType (recordIn table m .type) m (suc k) (walkFrom table left (suc k) m)) (omega arith)
-    (λ a b. at-type (k + (n - 1)) (recordIn table m .type) m (suc k) (walkFrom table left (suc k) m) (omega arith) (omega arith))
+bounded v zero k n = at-link (k + (n - 1)) (v n .modifier) n k (Refused 19 k) (omega arith) (λ a b. omega arith)
+bounded v (suc left) k n =
+    let m = v n .modifier in
+    let ih = bounded v left (suc k) m in
+    at-link (k + (n - 1)) m n k (atType (v m .type) m (suc k) (walkFrom v left (suc k) m)) (omega arith)
+    (λ a b. at-type (k + (n - 1)) (v m .type) m (suc k) (walkFrom v left (suc k) m) (omega arith) (omega arith))
 
-pub allowed : (table : List ℕ) (left k n : ℕ) → linksOf (walkFrom table left k n) ≤ k + left
+pub allowed : (v : View) (left k n : ℕ) → linksOf (walkFrom v left k n) ≤ k + left
 unfolding walkFrom
-allowed table zero k n = at-link (k + 0) (recordIn table n .modifier) n k (Refused 19 k) (omega arith) (λ a b. omega arith)
-allowed table (suc left) k n =
-    let m = recordIn table n .modifier in
-    let ih = allowed table left (suc k) m in
-    at-link (k + suc left) m n k (atType (recordIn table m .type) m (suc k) (walkFrom table left (suc k) m)) (omega arith)
-    (λ a b. at-type (k + suc left) (recordIn table m .type) m (suc k) (walkFrom table left (suc k) m) (omega arith) (omega arith))
+allowed v zero k n = at-link (k + 0) (v n .modifier) n k (Refused 19 k) (omega arith) (λ a b. omega arith)
+allowed v (suc left) k n =
+    let m = v n .modifier in
+    let ih = allowed v left (suc k) m in
+    at-link (k + suc left) m n k (atType (v m .type) m (suc k) (walkFrom v left (suc k) m)) (omega arith)
+    (λ a b. at-type (k + suc left) (v m .type) m (suc k) (walkFrom v left (suc k) m) (omega arith) (omega arith))
 
 -- a refused question follows none
 refusal-bound : (b a : ℕ) (f : Finish) → linksOf f ≤ b → linksOf (cond (eqb a 0) f (Refused a 0)) ≤ b
@@ -64,9 +64,9 @@ refusal-bound b a f h = go (eqb a 0)
 -- "That count never exceeds the start's number less 1"
 pub finish-bounded : (table : List ℕ) (count n allowance : ℕ) → linksOf (finishOf table count n allowance) ≤ n - 1
 unfolding finishOf
-finish-bounded table count n allowance = refusal-bound (n - 1) (numberRefusal table count n) (walkFrom table allowance 0 n) (let h = bounded table allowance 0 n in omega arith)
+finish-bounded table count n allowance = refusal-bound (n - 1) (numberRefusal table count n) (walkFrom (viewOf table) allowance 0 n) (let h = bounded (viewOf table) allowance 0 n in omega arith)
 
 -- nor the allowance
 pub finish-allowed : (table : List ℕ) (count n allowance : ℕ) → linksOf (finishOf table count n allowance) ≤ allowance
 unfolding finishOf
-finish-allowed table count n allowance = refusal-bound allowance (numberRefusal table count n) (walkFrom table allowance 0 n) (let h = allowed table allowance 0 n in omega arith)
+finish-allowed table count n allowance = refusal-bound allowance (numberRefusal table count n) (walkFrom (viewOf table) allowance 0 n) (let h = allowed (viewOf table) allowance 0 n in omega arith)

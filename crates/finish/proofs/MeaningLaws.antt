@@ -9,7 +9,8 @@ use borrow.Author.Tests.{le-leb, lt-ltb}
 use lib.ListN.{replicate, length, length-append}
 use Rattle.laws.specs.Bytes.{Bytes, same}
 use Rattle.finish.specs.Meaning.{finishIn}
-use Rattle.finish.specs.Question.{numberRefusal}
+use Rattle.table.specs.Question.{numberRefusal}
+use Rattle.table.specs.View.{viewOf}
 use Rattle.finish.specs.Walk.{numbersOf, atLink, atType, walkFrom, finishOf}
 use Rattle.finish.specs.declared.Finish.{Finish}
 use Rattle.finish.specs.declared.Finish.the-variants.{Reached, Refused}
@@ -22,8 +23,8 @@ use Rattle.scene.proofs.SwapLaws.{Linked, linked-split}
 use Rattle.scene.proofs.TellsLaws.{records-length, nth-at, split-statements, statements-length}
 use Rattle.scene.specs.Links.{hits, found, head, definition, latest, modifierLink, ownBody, typeIn}
 use Rattle.scene.specs.Reading.{Reading, Entry, statements, modifierTest, accepted, read}
-use Rattle.scene.specs.Record.{flat, rooms, Record, recordIn, recordOf, records, recordImage, nth, width}
-use Rattle.scene.specs.Settings.{Settings}
+use Rattle.scene.specs.Record.{flat, settingsFor, Record, recordIn, recordOf, records, recordImage, nth, width}
+use Rattle.scene.specs.declared.Settings.{Settings}
 use Rattle.scene.specs.Types.{isMaterial}
 use Rattle.scene.specs.Statement.{Body, primitive, alias, Statement, void}
 
@@ -80,20 +81,20 @@ leads w (e ∷ x) h = go (hits w (e .statement)) refl h (leads w x)
 
 -- ---- the walk over the table
 
-walk-none : (table : List ℕ) (k n : ℕ) → walkFrom table 0 k n ≡ atLink (recordIn table n .modifier) n k (Refused 19 k)
+walk-none : (table : List ℕ) (k n : ℕ) → walkFrom (viewOf table) 0 k n ≡ atLink (recordIn table n .modifier) n k (Refused 19 k)
 unfolding walkFrom
 walk-none table k n = refl
 
 -- the answer at link m of primitive n
 abbrev answerAt : List ℕ → (left k n m : ℕ) → Finish
-answerAt table left k n m = atLink m n k (atType (recordIn table m .type) m (suc k) (walkFrom table left (suc k) m))
+answerAt table left k n m = atLink m n k (atType (recordIn table m .type) m (suc k) (walkFrom (viewOf table) left (suc k) m))
 
-walk-some : (table : List ℕ) (left k n : ℕ) → walkFrom table (suc left) k n ≡ answerAt table left k n (recordIn table n .modifier)
+walk-some : (table : List ℕ) (left k n : ℕ) → walkFrom (viewOf table) (suc left) k n ≡ answerAt table left k n (recordIn table n .modifier)
 unfolding walkFrom
 walk-some table left k n = refl
 
 -- a link that leads down to a record with a type is followed
-link-followed : (table : List ℕ) (left k n m t : ℕ) (f : Finish) → IsType t → recordIn table (suc m) .type ≡ t → suc m < n → walkFrom table left (suc k) (suc m) ≡ f
+link-followed : (table : List ℕ) (left k n m t : ℕ) (f : Finish) → IsType t → recordIn table (suc m) .type ≡ t → suc m < n → walkFrom (viewOf table) left (suc k) (suc m) ≡ f
     → answerAt table left k n (suc m) ≡ cond (isMaterial t) (Reached (suc m) (suc k)) f
 link-followed table left k n m t f (a, b) q l w = rw (lt-ltb (suc m) n l, q, le-leb 1 t a, le-leb t 25 b, w)
 
@@ -121,7 +122,7 @@ module _ (es : List Entry) (table : List ℕ) (row : (n : ℕ) → recordIn tabl
     void-of : same (e .statement .modifier) void ≡ true → recordIn table (suc (length x)) .modifier ≡ 0
     void-of v = modifier-of ∙ ap (λ (b : Bool). cond b 0 (latest (e .statement .modifier) (statements x))) v
 
-    void-walk : (left k : ℕ) → same (e .statement .modifier) void ≡ true → walkFrom table left k (suc (length x)) ≡ Reached 0 k
+    void-walk : (left k : ℕ) → same (e .statement .modifier) void ≡ true → walkFrom (viewOf table) left k (suc (length x)) ≡ Reached 0 k
     void-walk zero k v = walk-none table k (suc (length x)) ∙ ap (λ m. atLink m (suc (length x)) k (Refused 19 k)) (void-of v)
     void-walk (suc left) k v = walk-some table left k (suc (length x)) ∙ ap (answerAt table left k (suc (length x))) (void-of v)
 
@@ -144,8 +145,8 @@ module _ (es : List Entry) (table : List ℕ) (row : (n : ℕ) → recordIn tabl
           ∙ (λ i. cond (isMaterial (typeIn (ownBody (next .entry .statement .body) (statements (next .earlier))))) (Reached (suc (statements-length (next .earlier) i)) (suc k)) (finishIn (next .entry .statement .modifier) (statements (next .earlier)) (suc k)))
 
   walk-step : (left k : ℕ) (l : List Entry) (e : Entry) (x : List Entry) (q : es ≡ l ++ e ∷ x) (v : same (e .statement .modifier) void ≡ false)
-      → walkFrom table left (suc k) (suc (length (next l e x q v .earlier))) ≡ finishIn (next l e x q v .entry .statement .modifier) (statements (next l e x q v .earlier)) (suc k)
-      → walkFrom table (suc left) k (suc (length x)) ≡ finishIn (e .statement .modifier) (statements x) k
+      → walkFrom (viewOf table) left (suc k) (suc (length (next l e x q v .earlier))) ≡ finishIn (next l e x q v .entry .statement .modifier) (statements (next l e x q v .earlier)) (suc k)
+      → walkFrom (viewOf table) (suc left) k (suc (length x)) ≡ finishIn (e .statement .modifier) (statements x) k
   walk-step left k l e x q v ih =
       let a = next l e x q v in
       let o = whole l e x q v in
@@ -155,17 +156,17 @@ module _ (es : List Entry) (table : List ℕ) (row : (n : ℕ) → recordIn tabl
       (type-range (l ++ e ∷ a .later) (a .entry) (a .earlier) o) (type-of (l ++ e ∷ a .later) (a .entry) (a .earlier) o) (omega arith) ih
       ∙ sym (finish-next l e x q v k)
 
-  walk-from : (left k : ℕ) (l : List Entry) (e : Entry) (x : List Entry) → es ≡ l ++ e ∷ x → length x ≤ left → walkFrom table left k (suc (length x)) ≡ finishIn (e .statement .modifier) (statements x) k
+  walk-from : (left k : ℕ) (l : List Entry) (e : Entry) (x : List Entry) → es ≡ l ++ e ∷ x → length x ≤ left → walkFrom (viewOf table) left k (suc (length x)) ≡ finishIn (e .statement .modifier) (statements x) k
   walk-from zero k l e x q h = go (same (e .statement .modifier) void) refl
     where
-      go : (b : Bool) → same (e .statement .modifier) void ≡ b → walkFrom table 0 k (suc (length x)) ≡ finishIn (e .statement .modifier) (statements x) k
+      go : (b : Bool) → same (e .statement .modifier) void ≡ b → walkFrom (viewOf table) 0 k (suc (length x)) ≡ finishIn (e .statement .modifier) (statements x) k
       go true v = void-walk l e x q 0 k v ∙ sym (finish-void (e .statement .modifier) (statements x) k v)
       go false v = let b = before l e x q v in absurd (omega arith)
   walk-from (suc left) k l e x q h = go (same (e .statement .modifier) void) refl (walk-from left (suc k))
     where
       go : (b : Bool) → same (e .statement .modifier) void ≡ b
-          → ((l : List Entry) (e : Entry) (x : List Entry) → es ≡ l ++ e ∷ x → length x ≤ left → walkFrom table left (suc k) (suc (length x)) ≡ finishIn (e .statement .modifier) (statements x) (suc k))
-          → walkFrom table (suc left) k (suc (length x)) ≡ finishIn (e .statement .modifier) (statements x) k
+          → ((l : List Entry) (e : Entry) (x : List Entry) → es ≡ l ++ e ∷ x → length x ≤ left → walkFrom (viewOf table) left (suc k) (suc (length x)) ≡ finishIn (e .statement .modifier) (statements x) (suc k))
+          → walkFrom (viewOf table) (suc left) k (suc (length x)) ≡ finishIn (e .statement .modifier) (statements x) k
       go true v ih = void-walk l e x q (suc left) k v ∙ sym (finish-void (e .statement .modifier) (statements x) k v)
       go false v ih =
           let a = next l e x q v in
@@ -188,7 +189,7 @@ module _ (r : Settings) (text : Bytes) (es : List Entry) (reads : read r text �
   image-row n = ap (λ (z : Reading). recordIn (recordImage m z) n) reads ∙ record-in (records es) m n
 
   -- the walk from a primitive of the table, with an allowance of all before it, is the walk from its statement
-  pub walk-means : (left k : ℕ) → length x ≤ left → walkFrom (recordImage m (read r text)) left k (suc (length x)) ≡ finishIn (e .statement .modifier) (statements x) k
+  pub walk-means : (left k : ℕ) → length x ≤ left → walkFrom (viewOf (recordImage m (read r text))) left k (suc (length x)) ≡ finishIn (e .statement .modifier) (statements x) k
   walk-means left k h = walk-from es (recordImage m (read r text)) image-row (accepted-linked r text es reads) (own-type r text es reads) left k l e x q h
 
   image-length : length es * width ≤ length (recordImage m (read r text))
@@ -209,9 +210,9 @@ module _ (r : Settings) (text : Bytes) (es : List Entry) (reads : read r text �
   finish-means allowance c h = rw (number-fine c) (walk-means allowance 0 h)
 
 -- the same of the tables lent to the reader; it refuses nothing
-module _ (text : Bytes) (lent doubles : ℕ) (es : List Entry) (reads : read (rooms lent doubles) text ≡ accepted es) (l : List Entry) (e : Entry) (x : List Entry) (q : es ≡ l ++ e ∷ x) (allowance : ℕ) (enough : length x ≤ allowance) where
-  pub finish-read : finishOf (recordImage lent (read (rooms lent doubles) text)) (length es) (suc (length x)) allowance ≡ finishIn (e .statement .modifier) (statements x) 0
-  finish-read = finish-means (rooms lent doubles) text es reads lent l e x q allowance (min-le-left 1024 (lent / width)) enough
+module _ (text : Bytes) (lent doubles : ℕ) (es : List Entry) (reads : read (settingsFor lent doubles) text ≡ accepted es) (l : List Entry) (e : Entry) (x : List Entry) (q : es ≡ l ++ e ∷ x) (allowance : ℕ) (enough : length x ≤ allowance) where
+  pub finish-read : finishOf (recordImage lent (read (settingsFor lent doubles) text)) (length es) (suc (length x)) allowance ≡ finishIn (e .statement .modifier) (statements x) 0
+  finish-read = finish-means (settingsFor lent doubles) text es reads lent l e x q allowance (min-le-left 1024 (lent / width)) enough
 
-  pub finish-accepts : numbersOf (finishOf (recordImage lent (read (rooms lent doubles) text)) (length es) (suc (length x)) allowance) .reason ≡ 0
+  pub finish-accepts : numbersOf (finishOf (recordImage lent (read (settingsFor lent doubles) text)) (length es) (suc (length x)) allowance) .reason ≡ 0
   finish-accepts = ap (λ (f : Finish). numbersOf f .reason) finish-read ∙ finish-reaches (e .statement .modifier) (statements x) 0

@@ -3,11 +3,11 @@ use mathlib.Core.Bool.{cond}
 use mathlib.Core.List.{List}
 use Prim.Native.Nat.{ℕ, zero, suc}
 use lib.Dec.{eqb, ltb}
-use Rattle.scene.specs.Record.{recordIn}
 use Rattle.scene.specs.Types.{isMaterial, isType}
 use Rattle.finish.specs.declared.Finish.{Finish}
 use Rattle.finish.specs.declared.Finish.the-variants.{Reached, Refused}
-use Rattle.finish.specs.Question.{numberRefusal}
+use Rattle.table.specs.Question.{numberRefusal}
+use Rattle.table.specs.View.{View, viewOf}
 
 -- document 01's number, primitive and count of each answer: "Refusals name primitive 0"
 pub record Numbers : Type 0 where
@@ -30,13 +30,13 @@ atType t m k further = cond (isType t) (cond (isMaterial t) (Reached m k) furthe
 
 -- the chain from primitive n on, after k links, with `left` more allowed; "19: another link is needed and the allowance is used
 -- up; the count is then the allowance"
-unfoldable pub walkFrom : List ℕ → (left k n : ℕ) → Finish
-walkFrom table zero k n = atLink (recordIn table n .modifier) n k (Refused 19 k)
-walkFrom table (suc left) k n =
-    let m = recordIn table n .modifier in
-    let further = walkFrom table left (suc k) m in
-    atLink m n k (atType (recordIn table m .type) m (suc k) further)
+unfoldable pub walkFrom : View → (left k n : ℕ) → Finish
+walkFrom v zero k n = atLink (v n .modifier) n k (Refused 19 k)
+walkFrom v (suc left) k n =
+    let m = v n .modifier in
+    let further = walkFrom v left (suc k) m in
+    atLink m n k (atType (v m .type) m (suc k) further)
 
 -- the finish walk from a primitive
 unfoldable pub finishOf : List ℕ → (count number allowance : ℕ) → Finish
-finishOf table count n allowance = let walk = walkFrom table allowance 0 n in cond (eqb (numberRefusal table count n) 0) walk (Refused (numberRefusal table count n) 0)
+finishOf table count n allowance = let walk = walkFrom (viewOf table) allowance 0 n in cond (eqb (numberRefusal table count n) 0) walk (Refused (numberRefusal table count n) 0)

@@ -1,4 +1,84 @@
-// Shows the finish of each surface of the scene text on standard input.
+// Shows the finish of each surface of scene texts: of the files that the arguments name, or of standard input where there
+// are none.
+use finish::Finish;
+use input::Loaded;
+use reader::Answer;
+
+// Enough for any line: three numbers of 20 digits at most, a type of 10 bytes, two names of 64, and 44 more.
+const LINE: usize = 256;
+
+// The line of a surface; nothing for other types. No walk needs more links than there are primitives.
+fn print_finish(text: &[u8], records: &[u32], count: usize, number: usize) -> bool {
+    let kind = table::field(records, number, table::KIND);
+    if !kinds::is_surface(kind) {
+        return true;
+    }
+    match finish::finish_of(records, count, number, count) {
+        Finish::Reached(material, links) => {
+            let mut line = [0u8; LINE];
+            let name = finish::name(text, records, count, number);
+            let material_name = finish::name(text, records, count, material);
+            let n = listing::finish_line(
+                &mut line,
+                number,
+                kind,
+                name,
+                material,
+                material_name,
+                links,
+            );
+            output::print(lexer::part(&line, 0, n))
+        }
+        Finish::Refused(reason, _) => output::print_refusal(reason, 0),
+    }
+}
+
+fn print_finishes(text: &[u8], records: &[u32], count: usize) -> bool {
+    let mut n = 0;
+    while n < count {
+        n += 1;
+        if !print_finish(text, records, count, n) {
+            return false;
+        }
+    }
+    true
+}
+
+// The lines of a text's surfaces, or its refusal.
+fn show(text: &[u8]) -> bool {
+    let mut records = [0u32; table::MOST_NUMBERS];
+    let mut reals = [0.0f64; table::MOST_REALS];
+    match reader::read(text, &mut records, &mut reals) {
+        Answer::Accepted(primitives, _) => print_finishes(text, &records, primitives),
+        Answer::Refused(reason, place) => output::print_refusal(reason, place),
+    }
+}
+
+// Answers whether to go on with the next text: not after a failed write.
+fn show_text(number: usize) -> bool {
+    let mut text = [0u8; input::MOST_BYTES];
+    match input::load(number, &mut text) {
+        Loaded::Text(n) => input::print_heading(number) && show(lexer::part(&text, 0, n)),
+        Loaded::TooLong => input::print_heading(number) && output::print_refusal(1, 0),
+        Loaded::Unreadable => input::print_unreadable(number),
+    }
+}
+
+fn show_all() {
+    let count = input::count();
+    let mut number = 0;
+    while number < count {
+        number += 1;
+        if !show_text(number) {
+            return;
+        }
+    }
+}
+
 fn main() {
-    print::finishes_input();
+    if input::has_option() {
+        output::print(b"usage: finishes [FILE..]\n");
+        return;
+    }
+    show_all();
 }

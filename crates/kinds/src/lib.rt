@@ -1,9 +1,9 @@
-// The 25 types: names, counts, house rules.
+// The 25 types: their groups, names, counts and house rules.
 ghost use mathlib.Core.Path.{_≡_};
 ghost use Prim.Native.Nat.{_-_, _*_, _<_};
 ghost use Rattle.laws.specs.Bytes.{part};
 ghost use Rattle.scene.specs.HouseRules.{breachAt, houseRules, isAbove0, isAtLeast0, is0};
-ghost use Rattle.scene.specs.Types.{allows, realsAllowed, stringsAllowed, typeName, typeNumber};
+ghost use Rattle.scene.specs.Types.{allows, isMaterial, isSurface, isType, realsAllowed, stringsAllowed, typeName, typeNumber};
 ghost use Rattle.kinds.specs.Names.{names, padded};
 ghost use Rattle.kinds.specs.Rules.{breached, broken, ruleOf};
 
@@ -198,6 +198,27 @@ const HOUSES: [u32; 24] = [
     TRANS2 * 100 + 5 * 10 + ABOVE_0,
     TRANS2 * 100 + 6 * 10 + ABOVE_0,
 ];
+
+// Whether a number is a type's.
+pub fn is_type(t: u32) -> bool
+    ensures { λ r. ⌜ r ≡ isType t ⌝ }
+{
+    (1 <= t) & (t <= 25)
+}
+
+// Whether a type is a surface.
+pub fn is_surface(t: u32) -> bool
+    ensures { λ r. ⌜ r ≡ isSurface t ⌝ }
+{
+    (1 <= t) & (t <= 9)
+}
+
+// Whether a type is a material.
+pub fn is_material(t: u32) -> bool
+    ensures { λ r. ⌜ r ≡ isMaterial t ⌝ }
+{
+    (10 <= t) & (t <= 24)
+}
 
 // The row of a type's number in the tables; number 0, of no type, has row 0 too.
 fn row(t: u32) -> usize

@@ -7,8 +7,8 @@ use borrow.Author.Tests.{ne-eqb}
 use lib.Dec.{eqb}
 use lib.ListN.{getD}
 use Rattle.laws.specs.Bytes.{Bytes, part}
-use Rattle.scene.specs.Record.{recordIn}
-use Rattle.finish.specs.Question.{nameIn, nameRefusal}
+use Rattle.scene.specs.Record.{nameIn, recordIn}
+use Rattle.finish.specs.Question.{nameRefusal, shownName}
 use Rattle.kribbelsteen.specs.Host.{namePart}
 
 module _ (text : Bytes) (table : List ℕ) (count n : ℕ) where
@@ -24,8 +24,8 @@ module _ (text : Bytes) (table : List ℕ) (count n : ℕ) where
   part-shown r e h = sym (ap (λ (b : Bool). cond b shown (0 ∷ 0 ∷ [])) (ap (λ (k : ℕ). eqb k 0) (sym e ∙ h)))
 
   -- that part of the text is what the name call shows, empty on a refusal
-  pub part-is-name : part text (getD (namePart text table count n) 0 0) (getD (namePart text table count n) 1 0) ≡ nameIn text table count n
-  unfolding namePart nameIn
+  pub part-is-name : part text (getD (namePart text table count n) 0 0) (getD (namePart text table count n) 1 0) ≡ shownName text table count n
+  unfolding namePart shownName nameIn
   part-is-name = go (eqb (nameRefusal text table count n) 0)
     where
       go : (b : Bool) →

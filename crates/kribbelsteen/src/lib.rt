@@ -1,7 +1,5 @@
 // The entry points for host programs, under C's calling convention: numbers, slices and small arrays, no precondition.
 use finish::Finish;
-use finish::NAME;
-use finish::NAME_LENGTH;
 use fresnel::Reflection;
 use hits::Hit;
 use hits::Ray;
@@ -9,6 +7,8 @@ use hits::Ring;
 use hits::Sphere;
 use reader::Answer;
 use steps::Vector;
+use table::NAME;
+use table::NAME_LENGTH;
 ghost use mathlib.Core.Path.{_≡_};
 ghost use Rattle.finish.specs.Question.{nameRefusal};
 ghost use Rattle.fresnel.specs.Fresnel.{fresnelOf};
@@ -58,8 +58,8 @@ pub extern "C" fn kribbelsteen_name(
         *answer = [0, 0];
         return refusal;
     }
-    let place = finish::field(records, number, NAME);
-    let len = finish::field(records, number, NAME_LENGTH);
+    let place = table::field(records, number, NAME);
+    let len = table::field(records, number, NAME_LENGTH);
     *answer = [place as usize, len as usize];
     0
 }

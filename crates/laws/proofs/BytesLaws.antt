@@ -1,9 +1,10 @@
 -- Two words have the same bytes exactly when they are equal.
-use mathlib.Core.Bool.{true}
+use mathlib.Core.Bool.{Bool, true, false, _&&_, and-false}
 use mathlib.Core.List.{[], _∷_}
-use mathlib.Core.Path.{_≡_, refl}
+use mathlib.Core.Path.{_≡_, refl, ap, sym, _∙_}
 use borrow.Author.Tests.{eq-eqb, eqb-true}
 use lib.Dec.{eqb}
+use lib.ListN.{length}
 use Rattle.laws.proofs.BoolLaws.{and-left, and-right}
 use Rattle.laws.specs.Bytes.{Bytes, same}
 
@@ -18,3 +19,18 @@ pub same-refl : (v : Bytes) → same v v ≡ true
 unfolding same
 same-refl [] = refl
 same-refl (x ∷ v) = rw (eq-eqb x x refl) (same-refl v)
+
+pub same-false : (v w : Bytes) → (v ≡ w → ⊥) → same v w ≡ false
+same-false v w h = go (same v w) refl
+  where
+    go : (b : Bool) → same v w ≡ b → same v w ≡ false
+    go true e = absurd (h (same-eq v w e))
+    go false e = e
+
+-- the same bytes are as many
+pub same-sized : (v w : Bytes) → (eqb (length v) (length w) && same w v) ≡ same w v
+same-sized v w = go (same w v) refl
+  where
+    go : (b : Bool) → same w v ≡ b → (eqb (length v) (length w) && b) ≡ b
+    go true e = ap (λ (x : Bool). x && true) (eq-eqb (length v) (length w) (sym (ap length (same-eq w v e))))
+    go false e = and-false (eqb (length v) (length w))

@@ -4,3 +4,4 @@ pub mod ListLaws
 pub mod NatLaws
 pub mod RunLaws
 pub mod TableLaws
+pub mod ClearLaws

@@ -46,17 +46,17 @@ pub fn row_line(out: &mut [u8], text: &[u8], records: &[u32], n: usize) -> usize
 {
     let name = lexer::part(
         text,
-        finish::field(records, n, finish::NAME) as usize,
-        finish::field(records, n, finish::NAME_LENGTH) as usize,
+        table::field(records, n, table::NAME) as usize,
+        table::field(records, n, table::NAME_LENGTH) as usize,
     );
     put_line(
         out,
         n,
-        finish::field(records, n, finish::MODIFIER),
-        finish::field(records, n, finish::TARGET),
-        finish::field(records, n, finish::KIND),
+        table::field(records, n, table::MODIFIER),
+        table::field(records, n, table::TARGET),
+        table::field(records, n, table::KIND),
         name,
-        finish::field(records, n, finish::NEXT),
+        table::field(records, n, table::NEXT),
     )
 }
 

@@ -19,47 +19,46 @@ use Rattle.lexer.specs.Word.{wordAt, wordFault}
 use Rattle.lexer.specs.declared.Word.{Word}
 use Rattle.reader.proofs.MoveLaws.{at-command, over-comment, over-blanks, ends-here}
 use Rattle.reader.proofs.PhaseLaws.{part-busy}
-use Rattle.reader.proofs.ReadyLaws.{stores-last, used-list, enter-ready, entered, steps-as, more-real, stores, count-is, looks}
+use Rattle.reader.proofs.ReadyLaws.{stores-last, used-list, count-fits, entered, steps-as, more-real, stores, count-is}
 use Rattle.reader.proofs.WordLaws.{reached, goes-out, goes-on, word-fits, refuses, faulty}
 use Rattle.reader.specs.Answer.{Reads, readInto, answered}
-use Rattle.reader.specs.Entered.{Enters, enteredIn}
+use Rattle.linker.specs.Entered.{enteredIn}
 use Rattle.reader.specs.Goes.{On, Stepped}
-use Rattle.reader.specs.Image.{between, openReals, image, movedTo}
-use Rattle.reader.specs.Invariant.{Inv, Turned, Ended, settingsOf, openingOf, AtWord, endOf, isIdle, roomIn, result}
-use Rattle.reader.specs.Seen.{seenIn, Looks}
-use Rattle.reader.specs.Steps.{stepOf}
+use Rattle.reader.specs.Image.{openReals, image}
+use Rattle.statement.specs.States.{between, isIdle, movedTo, openingOf}
+use Rattle.reader.specs.Invariant.{Inv, Ended, Ready, AtWord, endOf, result}
+use Rattle.linker.specs.Seen.{seenIn}
+use Rattle.parser.specs.Steps.{stepOf}
 use Rattle.reader.specs.declared.Answer.the-variants.{Accepted, Refused}
-use Rattle.reader.specs.declared.Turn.{Turn}
-use Rattle.reader.specs.declared.state.Phase.{Phase as CodePhase}
-use Rattle.reader.specs.declared.state.Room.{Room}
-use Rattle.reader.specs.declared.state.Seen.{Seen}
-use Rattle.reader.specs.declared.state.State.{State}
-use Rattle.reader.specs.declared.state.Step.{Step}
+use Rattle.statement.specs.declared.Phase.{Phase as CodePhase}
+use Rattle.scene.specs.declared.Settings.{Settings}
+use Rattle.statement.specs.declared.Seen.{Seen}
+use Rattle.statement.specs.declared.State.{State}
+use Rattle.statement.specs.declared.Step.{Step}
 use Rattle.scene.proofs.TellsLaws.{statements-length, reals-length}
 use Rattle.scene.specs.HouseRules.{zeroReal}
 use Rattle.scene.specs.Links.{realsUsed}
 use Rattle.scene.specs.Phase.{Phase, idle, busy}
 use Rattle.scene.specs.Reading.{run, read, finish, endIn, initial, newline, Places, accepted, statements, refused}
-use Rattle.scene.specs.Record.{rooms, answer, recordsFrom, recordImage, filled, flat, realTable, records, realImage}
+use Rattle.scene.specs.Record.{settingsFor, answer, recordsFrom, recordImage, filled, flat, realTable, records, realImage}
 use Rattle.scene.specs.Statement.{Statement}
-use Rattle.reader.specs.declared.Turn.the-variants as turn
-use Rattle.reader.specs.declared.state.Opening.the-variants as opening
-use Rattle.reader.specs.declared.state.Step.the-variants as to
+use Rattle.statement.specs.declared.Opening.the-variants as opening
+use Rattle.statement.specs.declared.Step.the-variants as to
 use Rattle.scene.specs.Record as table-of
 
 -- the text ends
-module _ (text : Bytes) (table : List ℕ) (reals : List Float) (room : Room) (s : State) (I : Inv text table reals room s) (h : length text ≤ s .at) where
-  text-ends : Ended text table reals room (endOf (s .phase) (s .count) (s .used) (length text))
+module _ (text : Bytes) (table : List ℕ) (reals : List Float) (room : Settings) (s : State) (I : Inv text table reals room s) (h : length text ≤ s .at) where
+  text-ends : Ready text table reals room s (endOf (s .phase) (length text))
   unfolding isIdle
   text-ends = go (I .phase) refl
     where
       phase-is : (ph : Phase) → I .phase ≡ ph → s .phase ≡ image (length (I .done)) (statements (I .above)) ph (I .places) .phase
       phase-is ph q = ap (λ (z : State). z .phase) (I .is) ∙ ap (λ (z : Phase). image (length (I .done)) (statements (I .above)) z (I .places) .phase) q
 
-      go : (ph : Phase) → I .phase ≡ ph → Ended text table reals room (endOf (s .phase) (s .count) (s .used) (length text))
+      go : (ph : Phase) → I .phase ≡ ph → Ready text table reals room s (endOf (s .phase) (length text))
       go idle q =
           let none-open : realTable (I .above) ++ openReals (I .phase) ≡ realTable (I .above) = ap {B = List Float} (λ (z : Phase). realTable (I .above) ++ openReals z) q ∙ append-nil (realTable (I .above)) in
-          subst (λ (z : CodePhase). Ended text table reals room (endOf z (s .count) (s .used) (length text))) (sym (phase-is idle q))
+          subst (λ (z : CodePhase). Ready text table reals room s (endOf z (length text))) (sym (phase-is idle q))
           (record {
             entries = I .above;
             accepts = ends-here text table reals room s I h ∙ ap (λ (ph : Phase). endIn ph (length text) (I .above)) q;
@@ -69,7 +68,7 @@ module _ (text : Bytes) (table : List ℕ) (reals : List Float) (room : Room) (s
             doubles = I .doubles ∙ ap (filled zeroReal (length reals)) none-open;
           })
       go (busy m p) q =
-          subst (Ended text table reals room) (sym (ap (λ (z : CodePhase). endOf z (s .count) (s .used) (length text)) (phase-is (busy m p) q) ∙ ap (λ (b : Bool). cond b (Accepted (s .count) (s .used)) (Refused 5 (length text))) (part-busy p)))
+          subst (Ready text table reals room s) (sym (ap (λ (z : CodePhase). endOf z (length text)) (phase-is (busy m p) q) ∙ ap (λ (b : Bool). cond b to.Ended (to.Refused 5 (length text))) (part-busy p)))
           (ends-here text table reals room s I h ∙ ap (λ (ph : Phase). endIn ph (length text) (I .above)) q)
 
 at-is : (n : ℕ) (d : List Statement) (ph : Phase) (k : Places) → image n d ph k .at ≡ n
@@ -78,21 +77,18 @@ at-is n d (busy m p) k = refl
 
 -- ---- a word's step
 
-module _ (text : Bytes) (table : List ℕ) (reals : List Float) (room : Room) (s : State) (len : ℕ) (W : AtWord text table reals room s len) where
+module _ (text : Bytes) (table : List ℕ) (reals : List Float) (room : Settings) (s : State) (len : ℕ) (W : AtWord text table reals room s len) where
   pub faulty-word : (n : ℕ) → wordFault (part text (s .at) len) ≡ n → (n ≡ 0 → ⊥) → result text room ≡ refused n (s .at)
   faulty-word zero e h = absurd (h refl)
   faulty-word (suc n) e h = faulty text table reals room s len W n e
 
-  pub look-ready : (t : State) (n : ℕ) → t ≡ movedTo s n → Looks text table reals t (s .at) len
-  look-ready t n q = subst (λ (z : State). Looks text table reals z (s .at) len) (sym q) (let h = looks text table reals room s (W .inv) (s .at) len (word-fits text table reals room s len W) in record { search = h .search; used = h .used; small = h .small; few = h .few; short = h .short })
-
   -- t is the state behind the word, v what is seen there
-  pub step-ready : (w : Bytes) (t : State) (v : Seen) (step : Step) → part text (s .at) len ≡ w → wordFault w ≡ 0 → t ≡ movedTo s (s .at + len + 1) → v ≡ seenIn text table reals t (s .at) len → step ≡ stepOf (t .phase) w room t v → Stepped text table reals room s len step
-  step-ready w t v step p h q₁ q₂ q₃ = subst (Stepped text table reals room s len) (sym (q₃ ∙ ap (stepOf (t .phase) w room t) q₂ ∙ (λ i. stepOf (q₁ i .phase) (sym p i) room (q₁ i) (seenIn text table reals (q₁ i) (s .at) len)))) (steps-as text table reals room s len W (ap wordFault p ∙ h))
+  step-stands : (w : Bytes) (t : State) (v : Seen) (step : Step) → part text (s .at) len ≡ w → wordFault w ≡ 0 → t ≡ movedTo s (s .at + len + 1) → v ≡ seenIn text table reals t (s .at) len → step ≡ stepOf (t .phase) w room t v → Stepped text table reals room s len step
+  step-stands w t v step p h q₁ q₂ q₃ = subst (Stepped text table reals room s len) (sym (q₃ ∙ ap (stepOf (t .phase) w room t) q₂ ∙ (λ i. stepOf (q₁ i .phase) (sym p i) room (q₁ i) (seenIn text table reals (q₁ i) (s .at) len)))) (steps-as text table reals room s len W (ap wordFault p ∙ h))
 
 -- ---- a step is done to the tables
 
-module _ (text : Bytes) (table : List ℕ) (reals : List Float) (room : Room) (s : State) (len : ℕ) where
+module _ (text : Bytes) (table : List ℕ) (reals : List Float) (room : Settings) (s : State) (len : ℕ) where
   abbrev Did : Step → Type 0
   Did step = Stepped text table reals room s len step
 
@@ -119,24 +115,39 @@ module _ (text : Bytes) (table : List ℕ) (reals : List Float) (room : Room) (s
   pub did-real : (x : Float) (t : State) (D : List Float) → Did (to.Real x t) → D ≡ set reals (s .used) x → Inv text table D room t × (s .at < t .at)
   did-real x t D S q = let m = one-more (S .stands) x D (real-room x t S) q in (goes-on text table reals room s len (S .stands) t (x ∷ []) D (S .goes) (m .0) (m .1), on-further (S .stands) t (x ∷ []) (S .goes))
 
-  pub complete-ready : (t : State) → Did (to.Complete t) → Enters text table (t .count) (t .draft)
-  complete-ready t S = enter-ready text table reals room s len (S .stands) t [] (S .goes)
-
   pub did-complete : (t t′ : State) (T : List ℕ) → Did (to.Complete t) → T ≡ enteredIn text table (t .count) (t .draft) → length T ≡ length table → t′ ≡ between (t .at) (t .count + 1) (t .used) → Inv text T reals room t′ × (s .at < t′ .at)
   did-complete t t′ T S q l v = (goes-out text table reals room s len (S .stands) t [] (S .goes) T reals l refl (q ∙ entered text table reals room s len (S .stands) t [] (S .goes)) (same-reals (S .stands)) t′ v, omega (arith, ap (λ (z : State). z .at) v, S .goes .place))
 
   pub last-room : (x : Float) (t : State) → Did (to.Last x t) → s .used < length reals
   last-room x t S = omega (arith, used-list text table reals room s (S .stands .inv), length-append (realTable (S .stands .inv .above)) (openReals (S .stands .inv .phase)), reals-length (statements (S .stands .inv .above)), stores-last text table reals room s len (S .stands) t (x ∷ []) (S .goes), ap length (S .goes .reals), length-append (openReals (S .stands .inv .phase)) (x ∷ []))
 
-  pub last-ready : (x : Float) (t : State) → Did (to.Last x t) → Enters text table (t .count) (t .draft)
-  last-ready x t S = enter-ready text table reals room s len (S .stands) t (x ∷ []) (S .goes)
-
   pub did-last : (x : Float) (t t′ : State) (T : List ℕ) (D : List Float) → Did (to.Last x t) → D ≡ set reals (s .used) x → T ≡ enteredIn text table (t .count) (t .draft) → length T ≡ length table → t′ ≡ between (t .at) (t .count + 1) (t .used) → Inv text T D room t′ × (s .at < t′ .at)
   did-last x t t′ T D S p q l v = let m = one-more (S .stands) x D (last-room x t S) p in (goes-out text table reals room s len (S .stands) t (x ∷ []) (S .goes) T D l (m .0) (q ∙ entered text table reals room s len (S .stands) t (x ∷ []) (S .goes)) (m .1) t′ v, omega (arith, ap (λ (z : State). z .at) v, S .goes .place))
 
+  ready-done : (step : Step) → Did step → Ready text table reals room s step
+  ready-done (to.Going t) S = did-go t S
+  ready-done (to.Real x t) S = (real-room x t S, λ D q. did-real x t D S q)
+  ready-done (to.Last x t) S = (last-room x t S, count-fits text table reals room s len (S .stands) t (x ∷ []) (S .goes), λ T D t′ p q l v. did-last x t t′ T D S p q l v)
+  ready-done (to.Complete t) S = (count-fits text table reals room s len (S .stands) t [] (S .goes), λ T t′ q l v. did-complete t t′ T S q l v)
+  ready-done (to.Refused n p) S = did-refuse n p S
+  ready-done to.Ended S = absurd (S .goes)
+
+module _ (text : Bytes) (table : List ℕ) (reals : List Float) (room : Settings) (s : State) (len : ℕ) (W : AtWord text table reals room s len) where
+  pub step-ready : (w : Bytes) (t : State) (v : Seen) (step : Step) → part text (s .at) len ≡ w → wordFault w ≡ 0 → t ≡ movedTo s (s .at + len + 1) → v ≡ seenIn text table reals t (s .at) len → step ≡ stepOf (t .phase) w room t v → Ready text table reals room s step
+  step-ready w t v step p h q₁ q₂ q₃ = ready-done text table reals room s len step (step-stands text table reals room s len W w t v step p h q₁ q₂ q₃)
+
+-- a step from a later place is one from here
+pub later-ready : (text : Bytes) (table : List ℕ) (reals : List Float) (room : Settings) (s : State) (n : ℕ) (step : Step) → s .at ≤ n → Ready text table reals room (movedTo s n) step → Ready text table reals room s step
+later-ready text table reals room s n (to.Going t) h r = (r .0, (let l = r .1 in omega arith))
+later-ready text table reals room s n (to.Real x t) h r = (r .0, λ D q. (r .1 D q .0, (let l = r .1 D q .1 in omega arith)))
+later-ready text table reals room s n (to.Last x t) h r = (r .0, r .1, λ T D t′ p q l v. (r .2 T D t′ p q l v .0, (let m = r .2 T D t′ p q l v .1 in omega arith)))
+later-ready text table reals room s n (to.Complete t) h r = (r .0, λ T t′ q l v. (r .1 T t′ q l v .0, (let m = r .1 T t′ q l v .1 in omega arith)))
+later-ready text table reals room s n (to.Refused c p) h r = r
+later-ready text table reals room s n to.Ended h r = r
+
 -- ---- a turn: w is the next word
 
-module _ (text : Bytes) (table : List ℕ) (reals : List Float) (room : Room) (s : State) (I : Inv text table reals room s) (w : Word) (q : w ≡ wordAt text (s .at)) where
+module _ (text : Bytes) (table : List ℕ) (reals : List Float) (room : Settings) (s : State) (I : Inv text table reals room s) (w : Word) (q : w ≡ wordAt text (s .at)) where
   place-is : w .place ≡ past isBlank text (s .at)
   unfolding wordAt
   place-is = ap (λ (z : Word). z .place) q
@@ -159,7 +170,7 @@ module _ (text : Bytes) (table : List ℕ) (reals : List Float) (room : Room) (s
   unfolding isOther
   word-some h = omega (arith, size-is, ap (longest isOther) (drop-cons text (w .place) 0 h), run-more isOther (getD text (w .place) 0) (drop (suc (w .place)) text) (ap not (at-blank h)))
 
-  pub end-now : w .len ≡ 0 → Ended text table reals room (endOf (s .phase) (s .count) (s .used) (length text))
+  pub end-now : w .len ≡ 0 → Ready text table reals room s (endOf (s .phase) (length text))
   end-now z = go (le-or-lt (s .at) (length text))
     where
       at-end : w .place ≡ length text
@@ -169,8 +180,8 @@ module _ (text : Bytes) (table : List ℕ) (reals : List Float) (room : Room) (s
           go (inl h) = omega (arith, most)
           go (inr h) = absurd (omega (arith, word-some h))
 
-      go : (s .at ≤ length text) ⊎ (length text < s .at) → Ended text table reals room (endOf (s .phase) (s .count) (s .used) (length text))
-      go (inl h) = text-ends text table reals room (movedTo s (past isBlank text (s .at))) (over-blanks text table reals room s I h) (omega (arith, place-is, at-end))
+      go : (s .at ≤ length text) ⊎ (length text < s .at) → Ready text table reals room s (endOf (s .phase) (length text))
+      go (inl h) = later-ready text table reals room s (past isBlank text (s .at)) (endOf (s .phase) (length text)) (omega (arith, place-is, at-least h)) (text-ends text table reals room (movedTo s (past isBlank text (s .at))) (over-blanks text table reals room s I h) (omega (arith, place-is, at-end)))
       go (inr h) = text-ends text table reals room s I (omega arith)
 
   module _ (some : 0 < w .len) where
@@ -206,17 +217,13 @@ module _ (text : Bytes) (table : List ℕ) (reals : List Float) (room : Room) (s
     pub place-least : s .at ≤ w .place
     place-least = at-least (omega (arith, inside .0))
 
-pub later-turn : (text : Bytes) (table : List ℕ) (reals : List Float) (room : Room) (n k : ℕ) (r : Turn) → k ≤ n → Turned text table reals room n r → Turned text table reals room k r
-later-turn text table reals room n k (turn.Going s) h t = (t .0, (let l = t .1 in omega arith))
-later-turn text table reals room n k (turn.Ended o) h t = t
-
 -- ---- the whole text
 
-short-read : (R : Room) (text : Bytes) → length text ≤ 65536 → read (settingsOf R) text ≡ result text R
+short-read : (R : Settings) (text : Bytes) → length text ≤ 65536 → read R text ≡ result text R
 unfolding read
 short-read R text h = ap (λ (b : Bool). cond b (result text R) (refused 1 0)) (le-leb (length text) 65536 h)
 
--- the tables as they were lent, and a reading in their rooms
+-- the tables as they were lent, and a reading at their sizes
 module _ (text : Bytes) (T₀ : List ℕ) (D₀ : List Float) where
   -- what a refusal promises
   pub refused-reads : (n p : ℕ) (T : List ℕ) (D : List Float) → readInto text T₀ D₀ ≡ refused n p → T ≡ replicate (length T₀) 0 → D ≡ replicate (length D₀) zeroReal → Reads text T₀ D₀ (Refused n p) T D
@@ -230,11 +237,11 @@ module _ (text : Bytes) (T₀ : List ℕ) (D₀ : List Float) where
 
   pub too-long : 65536 < length text → readInto text T₀ D₀ ≡ refused 1 0
   unfolding read
-  too-long h = ap (λ (b : Bool). cond b (finish (length text) (run (rooms (length T₀) (length D₀)) initial (text ++ newline))) (refused 1 0)) (lt-leb (length text) 65536 h)
+  too-long h = ap (λ (b : Bool). cond b (finish (length text) (run (settingsFor (length T₀) (length D₀)) initial (text ++ newline))) (refused 1 0)) (lt-leb (length text) 65536 h)
 
-  module _ (R : Room) (q : R ≡ roomIn (length T₀) (length D₀)) (h : length text ≤ 65536) where
+  module _ (R : Settings) (q : R ≡ settingsFor (length T₀) (length D₀)) (h : length text ≤ 65536) where
     pub reads-as : readInto text T₀ D₀ ≡ result text R
-    reads-as = ap (λ (z : Room). read (settingsOf z) text) (sym q) ∙ short-read R text h
+    reads-as = ap (λ (z : Settings). read z text) (sym q) ∙ short-read R text h
 
     pub accepted-reads : (n k : ℕ) (T : List ℕ) (D : List Float) → Ended text T D R (Accepted n k) → length T ≡ length T₀ → length D ≡ length D₀ → Reads text T₀ D₀ (Accepted n k) T D
     unfolding recordImage realImage
@@ -248,7 +255,7 @@ module _ (text : Bytes) (T₀ : List ℕ) (D₀ : List Float) where
         }
 
   -- two cleared tables
-  pub first-inv : (T : List ℕ) (D : List Float) → T ≡ replicate (length T₀) 0 → D ≡ replicate (length D₀) zeroReal → length text ≤ 65536 → (R : Room) → R ≡ roomIn (length T) (length D) → Inv text T D R (between 0 0 0)
+  pub first-inv : (T : List ℕ) (D : List Float) → T ≡ replicate (length T₀) 0 → D ≡ replicate (length D₀) zeroReal → length text ≤ 65536 → (R : Settings) → R ≡ settingsFor (length T) (length D) → Inv text T D R (between 0 0 0)
   unfolding run statements realsUsed records recordsFrom flat table-of.reals
   first-inv T D t d h R q =
       let lt : length T ≡ length T₀ = ap length t ∙ length-replicate (length T₀) 0 in
@@ -264,6 +271,6 @@ module _ (text : Bytes) (T₀ : List ℕ) (D₀ : List Float) where
         is = refl;
         stored = t ∙ ap (λ (n : ℕ). replicate n 0) (sym lt ∙ sym (sub-zero (length T)));
         doubles = d ∙ ap (λ (n : ℕ). replicate n zeroReal) (sym ld ∙ sym (sub-zero (length D)));
-        rooms = q;
+        settings = q;
         short = h;
       }

@@ -16,7 +16,7 @@ use Rattle.scene.proofs.FlatLaws.{record-in}
 use Rattle.scene.specs.Exchange.{Renumbers, exchangeShift}
 use Rattle.scene.specs.HouseRules.{zeroReal}
 use Rattle.scene.specs.Reading.{read, Entry, accepted}
-use Rattle.scene.specs.Record.{recordIn, records, realImage, nth, answer, recordImage, realTable, rooms, Answer as Numbers}
+use Rattle.scene.specs.Record.{recordIn, records, realImage, nth, answer, recordImage, realTable, settingsFor, Answer as Numbers}
 use Rattle.scene.specs.Told.{tells, renumbered}
 
 -- what a call on an accepted text shows
@@ -50,13 +50,13 @@ reader-exchange p a b q es lent lent′ doubles doubles′ l d E n k table reals
     e = E .reads
 
     es′ : List Entry
-    es′ = exchange-law (rooms (length lent) (length doubles)) p a b q es E .entries
+    es′ = exchange-law (settingsFor (length lent) (length doubles)) p a b q es E .entries
 
-    X : Renumbers (rooms (length lent) (length doubles)) (p ++ a ++ b ++ q) (p ++ b ++ a ++ q) es es′ (exchangeShift es p a b)
-    X = exchange-law (rooms (length lent) (length doubles)) p a b q es E .renumbers
+    X : Renumbers (settingsFor (length lent) (length doubles)) (p ++ a ++ b ++ q) (p ++ b ++ a ++ q) es es′ (exchangeShift es p a b)
+    X = exchange-law (settingsFor (length lent) (length doubles)) p a b q es E .renumbers
 
     e′ : readInto new lent′ doubles′ ≡ accepted es′
-    e′ = (λ i. read (rooms (l i) (d i)) new) ∙ X .reads
+    e′ = (λ i. read (settingsFor (l i) (d i)) new) ∙ X .reads
 
     counts : (n ≡ length es) × (k ≡ length (realTable es))
     counts = let h = R .numbers ∙ ap answer e in (ap (λ (z : Numbers). z .primitives) h, ap (λ (z : Numbers). z .reals) h)

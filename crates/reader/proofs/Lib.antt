@@ -1,12 +1,7 @@
-pub mod LookupLaws
-pub mod SeenLaws
-pub mod EnteredLaws
 pub mod StepLaws
 pub mod PhaseLaws
 pub mod MoveLaws
 pub mod WordLaws
 pub mod ReadyLaws
 pub mod EndLaws
-pub mod TableLaws
-pub mod AnswerLaws
 pub mod ExchangeLaws

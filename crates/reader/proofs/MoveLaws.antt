@@ -14,22 +14,23 @@ use Rattle.laws.specs.Bytes.{Bytes, byte}
 use Rattle.laws.specs.Runs.{past, run as longest}
 use Rattle.lexer.specs.Class.{isInLine, isBlank}
 use Rattle.reader.proofs.PhaseLaws.{part-busy}
-use Rattle.reader.specs.Image.{phaseOf, image, movedTo}
-use Rattle.reader.specs.Invariant.{Inv, isIdle, openingOf, settingsOf, result}
-use Rattle.reader.specs.declared.state.Room.{Room}
-use Rattle.reader.specs.declared.state.State.{State}
+use Rattle.reader.specs.Image.{phaseOf, image}
+use Rattle.reader.specs.Invariant.{Inv, result}
+use Rattle.statement.specs.States.{isIdle, movedTo, openingOf}
+use Rattle.scene.specs.declared.Settings.{Settings}
+use Rattle.statement.specs.declared.State.{State}
 use Rattle.scene.proofs.EdgeLaws.{run-append, run-stopped}
 use Rattle.scene.proofs.TurnLaws.{run-blanks, run-comment}
 use Rattle.scene.specs.Phase.{Part, Phase, idle, busy}
 use Rattle.scene.specs.Reading.{run, finish, command, statements, first, initial, refused, endIn, gap, goingAt, comment, newline, keep, begins, advance, Places}
-use Rattle.scene.specs.Settings.{Settings}
+use Rattle.scene.specs.declared.Settings.{Settings}
 use Rattle.scene.specs.Statement.{Statement}
-use Rattle.reader.specs.declared.state.Opening.the-variants as opening
+use Rattle.statement.specs.declared.Opening.the-variants as opening
 use Rattle.scene.specs.Reading as reading
 
-module _ (text : Bytes) (table : List ℕ) (reals : List Float) (room : Room) (s : State) (I : Inv text table reals room s) where
+module _ (text : Bytes) (table : List ℕ) (reals : List Float) (room : Settings) (s : State) (I : Inv text table reals room s) where
   abbrev r : Settings
-  r = settingsOf room
+  r = room
 
   pub place : s .at ≡ length (I .done)
   place = ap (λ (z : State). z .at) (I .is) ∙ at-image (I .phase)
@@ -70,7 +71,7 @@ module _ (text : Bytes) (table : List ℕ) (reals : List Float) (room : Room) (s
         is = moved-image n ∙ ap (λ (n : ℕ). image n (statements (I .above)) (I .phase) (I .places)) l;
         stored = I .stored;
         doubles = I .doubles;
-        rooms = I .rooms;
+        settings = I .settings;
         short = I .short;
       }
 
@@ -140,7 +141,7 @@ module _ (n : ℕ) (d : List Statement) (k : Places) (b : ℕ) where
 
 -- ---- at a byte that is no blank
 
-module _ (text : Bytes) (table : List ℕ) (reals : List Float) (room : Room) (s : State) (I : Inv text table reals room s) (fits : s .at < length text) (other : isBlank (getD text (s .at) 0) ≡ false) where
+module _ (text : Bytes) (table : List ℕ) (reals : List Float) (room : Settings) (s : State) (I : Inv text table reals room s) (fits : s .at < length text) (other : isBlank (getD text (s .at) 0) ≡ false) where
   c : ℕ
   c = getD text (s .at) 0
 
@@ -160,9 +161,9 @@ module _ (text : Bytes) (table : List ℕ) (reals : List Float) (room : Room) (s
       further text table reals room s I (c ∷ (take n t ++ 10 ∷ [])) (beh .rest) (past isInLine text (s .at) + 1)
       (bytes-ahead ∙ ap {B = Bytes} (λ (x : Bytes). c ∷ x) (ap {B = Bytes} (λ (x : Bytes). x ++ newline) (sym (take-append-drop n t)) ∙ append-assoc (take n t) (drop n t) newline ∙ ap {B = Bytes} (λ (x : Bytes). take n t ++ x) (beh .split ∙ ap {B = Bytes} (λ (b : ℕ). b ∷ beh .rest) ten) ∙ sym (append-assoc (take n t) (10 ∷ []) (beh .rest))))
       (omega (arith, size, length-append (take n t) (10 ∷ []), shorter))
-      (subst (λ (ph : Phase). run (settingsOf room) (goingAt (s .at) gap ph (I .places) (I .above)) (c ∷ (take n t ++ 10 ∷ [])) ≡ goingAt (past isInLine text (s .at) + 1) gap ph (I .places) (I .above)) (sym (o .0))
-      ((λ i. run (settingsOf room) (advance (settingsOf room) (record { at = s .at; mode = gap; phase = idle; places = I .places; above = I .above }) (cond (other i) (keep gap) (cond (o .1 i) (keep comment) (cond (eqb c (byte "!")) command (first c))))) (take n t ++ 10 ∷ [])) ∙
-      run-comment (settingsOf room) idle (I .above) (suc (s .at)) (I .places) (take n t) [] (run-all isInLine t) ∙ ap (λ (n : ℕ). goingAt n gap idle (I .places) (I .above)) num))
+      (subst (λ (ph : Phase). run room (goingAt (s .at) gap ph (I .places) (I .above)) (c ∷ (take n t ++ 10 ∷ [])) ≡ goingAt (past isInLine text (s .at) + 1) gap ph (I .places) (I .above)) (sym (o .0))
+      ((λ i. run room (advance room (record { at = s .at; mode = gap; phase = idle; places = I .places; above = I .above }) (cond (other i) (keep gap) (cond (o .1 i) (keep comment) (cond (eqb c (byte "!")) command (first c))))) (take n t ++ 10 ∷ [])) ∙
+      run-comment room idle (I .above) (suc (s .at)) (I .places) (take n t) [] (run-all isInLine t) ∙ ap (λ (n : ℕ). goingAt n gap idle (I .places) (I .above)) num))
     where
       n : ℕ
       n = longest isInLine t
@@ -188,10 +189,10 @@ module _ (text : Bytes) (table : List ℕ) (reals : List Float) (room : Room) (s
   pub at-command : openingOf (s .phase) (getD text (s .at) 0) ≡ opening.Command → result text room ≡ refused 4 (s .at)
   unfolding run c t
   at-command op =
-      ap (finish (length text)) (ap (run (settingsOf room) initial) (I .whole) ∙ on text table reals room s I (I .rest) ∙ ap (run (settingsOf room) (goingAt (s .at) gap (I .phase) (I .places) (I .above))) (ahead text table reals room s I ∙ bytes-ahead) ∙
-      ap (λ (ph : Phase). run (settingsOf room) (goingAt (s .at) gap ph (I .places) (I .above)) (c ∷ (t ++ newline))) (o .0) ∙
-      (λ i. run (settingsOf room) (advance (settingsOf room) (record { at = s .at; mode = gap; phase = idle; places = I .places; above = I .above }) (cond (other i) (keep gap) (o .1 i))) (t ++ newline)) ∙
-      run-stopped (settingsOf room) 4 (s .at) (t ++ newline))
+      ap (finish (length text)) (ap (run room initial) (I .whole) ∙ on text table reals room s I (I .rest) ∙ ap (run room (goingAt (s .at) gap (I .phase) (I .places) (I .above))) (ahead text table reals room s I ∙ bytes-ahead) ∙
+      ap (λ (ph : Phase). run room (goingAt (s .at) gap ph (I .places) (I .above)) (c ∷ (t ++ newline))) (o .0) ∙
+      (λ i. run room (advance room (record { at = s .at; mode = gap; phase = idle; places = I .places; above = I .above }) (cond (other i) (keep gap) (o .1 i))) (t ++ newline)) ∙
+      run-stopped room 4 (s .at) (t ++ newline))
     where
       o : (I .phase ≡ idle) × (begins idle c ≡ command)
       o = opens-command (length (I .done)) (statements (I .above)) (I .places) c (I .phase) (ap (λ (z : State). openingOf (z .phase) c) (sym (I .is)) ∙ op)

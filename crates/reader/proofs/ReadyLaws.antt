@@ -10,21 +10,24 @@ use lib.ListN.{length, length-append, set, replicate}
 use lib.Seq.{set-at, append-snoc}
 use Rattle.laws.specs.Bytes.{part, Bytes}
 use Rattle.lexer.specs.Word.{wordFault}
-use Rattle.reader.proofs.EnteredLaws.{enters}
-use Rattle.reader.proofs.LookupLaws.{searchable, search-latest}
+use Rattle.linker.proofs.EnteredLaws.{enters}
+use Rattle.linker.proofs.LookupLaws.{search-latest}
 use Rattle.reader.proofs.MoveLaws.{moved-image}
-use Rattle.reader.proofs.SeenLaws.{FoundAs, breach-is, found-as}
+use Rattle.linker.proofs.SeenLaws.{FoundAs, breach-is, found-as}
+use Rattle.linker.proofs.TableLaws.{latest-in-le, looked-le}
 use Rattle.reader.proofs.StepLaws.{Sees, follows}
-use Rattle.reader.proofs.WordLaws.{done, comes, word-length, reached, all-there}
-use Rattle.reader.specs.Entered.{enteredIn, Enters}
+use Rattle.reader.proofs.WordLaws.{done, comes, word-fits, word-length, reached, all-there}
+use Rattle.linker.specs.Entered.{enteredIn}
 use Rattle.reader.specs.Goes.{Goes, Done, wordEnded, On, Stepped}
-use Rattle.reader.specs.Image.{partReals, openReals, movedTo, image, phaseOf}
-use Rattle.reader.specs.Invariant.{AtWord, Inv, settingsOf}
-use Rattle.reader.specs.Lookup.{Searchable, latestIn}
-use Rattle.reader.specs.Seen.{back, isLookedUp, lookedFor, seenIn, Looks, draftIn, seenBy}
-use Rattle.reader.specs.Steps.{stepOf}
-use Rattle.reader.specs.declared.state.Room.{Room}
-use Rattle.reader.specs.declared.state.State.{State}
+use Rattle.reader.specs.Image.{partReals, openReals, image, phaseOf}
+use Rattle.statement.specs.States.{movedTo}
+use Rattle.statement.specs.declared.Seen.{Seen}
+use Rattle.reader.specs.Invariant.{AtWord, Inv}
+use Rattle.linker.specs.Lookup.{latestIn}
+use Rattle.linker.specs.Seen.{back, clipped, isLookedUp, lookedFor, seenIn, draftIn, seenBy}
+use Rattle.parser.specs.Steps.{stepOf}
+use Rattle.scene.specs.declared.Settings.{Settings}
+use Rattle.statement.specs.declared.State.{State}
 use Rattle.scene.proofs.AcceptLaws.{going-sound}
 use Rattle.scene.proofs.PlaceLaws.{all-on, AllRead, all-read}
 use Rattle.scene.proofs.RoomLaws.{fit-forth, room-inv}
@@ -36,7 +39,7 @@ use Rattle.scene.specs.Links.{realsIn, realsUsed, latest}
 use Rattle.scene.specs.Phase.{atType, atRealCount, Phase, atStringCount, atString, atName, idle, atTarget, atReal, atIntegerCount, atAliasName, busy}
 use Rattle.scene.specs.Reading.{run, gap, Entry, initial, Going, statements, going, newline}
 use Rattle.scene.specs.Record.{realTable, width, filled, Record, records, recordOf, flat}
-use Rattle.scene.specs.Settings.{Settings}
+use Rattle.scene.specs.declared.Settings.{Settings}
 use Rattle.scene.specs.Statement.{numbers, Statement}
 
 -- ---- from the definition's state
@@ -69,24 +72,31 @@ more-real l D x n u d q h =
 
 -- ---- between two words
 
-module _ (text : Bytes) (table : List ℕ) (reals : List Float) (room : Room) (s : State) (I : Inv text table reals room s) where
+module _ (text : Bytes) (table : List ℕ) (reals : List Float) (room : Settings) (s : State) (I : Inv text table reals room s) where
   abbrev here : Going
   here = record { at = length (I .done); mode = gap; phase = I .phase; places = I .places; above = I .above }
 
-  at-phase : AtPhase (settingsOf room) (statements (I .above)) (I .phase)
-  at-phase = going-sound (settingsOf room) (I .done) here (I .reach)
+  at-phase : AtPhase room (statements (I .above)) (I .phase)
+  at-phase = going-sound room (I .done) here (I .reach)
 
   fit : Linked (statements (I .above)) × (length (statements (I .above)) ≤ room .records) × (realsUsed (statements (I .above)) ≤ room .reals)
-  fit = fit-forth (settingsOf room) (statements (I .above)) (sound-at (settingsOf room) (statements (I .above)) (I .phase) at-phase)
+  fit = fit-forth room (statements (I .above)) (sound-at room (statements (I .above)) (I .phase) at-phase)
 
   records-room : room .records ≡ min 1024 (length table / width)
-  records-room = ap (λ (z : Room). z .records) (I .rooms)
+  records-room = ap (λ (z : Settings). z .records) (I .settings)
 
   reals-room : room .reals ≡ min 4096 (length reals)
-  reals-room = ap (λ (z : Room). z .reals) (I .rooms)
+  reals-room = ap (λ (z : Settings). z .reals) (I .settings)
 
   all-stands : AllRead (text ++ newline) (I .above)
-  all-stands = subst (λ (z : Bytes). AllRead z (I .above)) (sym (I .whole)) (all-on (I .rest) (I .done) (I .above) (all-read (settingsOf room) (I .done) here (I .reach)))
+  all-stands = subst (λ (z : Bytes). AllRead z (I .above)) (sym (I .whole)) (all-on (I .rest) (I .done) (I .above) (all-read room (I .done) here (I .reach)))
+
+  count-few : length (statements (I .above)) ≤ 1024
+  count-few = omega (arith, fit .1, records-room)
+
+  -- as many rows as the table has
+  in-rows : min (length (statements (I .above))) (length table / width) ≡ length (statements (I .above))
+  in-rows = omega (arith, fit .1, records-room)
 
   pub count-is : s .count ≡ length (statements (I .above))
   count-is = ap (λ (z : State). z .count) (I .is) ∙ go (I .phase)
@@ -106,20 +116,14 @@ module _ (text : Bytes) (table : List ℕ) (reals : List Float) (room : Room) (s
   used-list = used-is ∙ ap (λ (n : ℕ). n + length (openReals (I .phase))) (sym (reals-length (statements (I .above)))) ∙ sym (length-append (realTable (I .above)) (openReals (I .phase)))
 
   pub used-room : (s .used ≤ length reals) × (s .used ≤ 4096)
-  used-room = (omega (arith, used-is, room-at (settingsOf room) (statements (I .above)) (I .phase) at-phase, reals-room), omega (arith, used-is, room-at (settingsOf room) (statements (I .above)) (I .phase) at-phase, reals-room))
-
-  searching : (p n : ℕ) → p + n ≤ length text → Searchable text table (s .count) p n
-  searching p n f = subst (λ (z : List ℕ). Searchable text z (s .count) p n) (sym (I .stored)) (subst (λ (c : ℕ). Searchable text (filled 0 (length table) (flat (records (I .above)))) c p n) (sym (count-is ∙ statements-length (I .above))) (searchable text (I .above) (length table) all-stands p n f))
-
-  pub looks : (p n : ℕ) → p + n ≤ length text → Looks text table reals s p n
-  looks p n f = record { search = searching p n f; used = used-room .0; small = used-room .1; few = omega (arith, count-is, fit .1, records-room); short = I .short }
+  used-room = (omega (arith, used-is, room-at room (statements (I .above)) (I .phase) at-phase, reals-room), omega (arith, used-is, room-at room (statements (I .above)) (I .phase) at-phase, reals-room))
 
   finds : (w : Bytes) → latestIn text table w (s .count) ≡ latest w (statements (I .above))
   finds w = (λ i. latestIn text (I .stored i) w ((count-is ∙ statements-length (I .above)) i)) ∙ search-latest text (I .above) (length table) all-stands w
 
 -- ---- at a word
 
-module _ (text : Bytes) (table : List ℕ) (reals : List Float) (room : Room) (s : State) (len : ℕ) (W : AtWord text table reals room s len) where
+module _ (text : Bytes) (table : List ℕ) (reals : List Float) (room : Settings) (s : State) (len : ℕ) (W : AtWord text table reals room s len) where
   abbrev I : Inv text table reals room s
   I = W .inv
 
@@ -143,7 +147,7 @@ module _ (text : Bytes) (table : List ℕ) (reals : List Float) (room : Room) (s
 
   -- as the code's values stand when the phase is ph
   sees : (ph : Phase) → ph ≡ I .phase → (f : ℕ) → f ≡ lookedFor (image (suc (s .at + len)) d ph (I .places) .phase) X
-      → Sees (settingsOf room) room es (I .places) (s .at) w (realsUsed d + length (openReals ph)) f (draftIn table f) (back reals (realsUsed d + length (openReals ph)) 1) (back reals (realsUsed d + length (openReals ph)) 2) ph
+      → Sees room es (I .places) (s .at) w (realsUsed d + length (openReals ph)) f (draftIn table f) (back reals (realsUsed d + length (openReals ph)) 1) (back reals (realsUsed d + length (openReals ph)) 2) ph
   unfolding isLookedUp
   sees idle q f g = subst (λ (x : ℕ). (latest w d ≡ x) × FoundAs es w (draftIn table x) x) (sym g) looked
   sees (busy m atType) q f g = tt
@@ -152,48 +156,75 @@ module _ (text : Bytes) (table : List ℕ) (reals : List Float) (room : Room) (s
   sees (busy m (atString t n ss j)) q f g = tt
   sees (busy m (atIntegerCount t n ss)) q f g = tt
   sees (busy m (atRealCount t n ss)) q f g = add-zero (realsUsed d)
-  sees (busy m (atReal t n ss rs j)) q f g = λ x.
-      let l : length rs + suc j - j ≡ suc (length (numbers rs)) = omega (arith, numbers-length rs) in
-      breach-is reals (realTable es) (numbers rs) (I .doubles ∙ ap (λ (z : Phase). filled zeroReal (length reals) (realTable es ++ openReals z)) (sym q)) (realsUsed d + length (numbers rs)) (ap (λ (n : ℕ). n + length (numbers rs)) (sym (reals-length d))) t x (length rs + suc j - j) l
+  sees (busy m (atReal t n ss rs j)) q f g = (
+    room-left,
+    λ x.
+        let l : length rs + suc j - j ≡ suc (length (numbers rs)) = omega (arith, numbers-length rs) in
+        breach-is reals (realTable es) (numbers rs) (I .doubles ∙ ap (λ (z : Phase). filled zeroReal (length reals) (realTable es ++ openReals z)) (sym q)) (realsUsed d + length (numbers rs)) (ap (λ (n : ℕ). n + length (numbers rs)) (sym (reals-length d))) t x (length rs + suc j - j) l,
+  )
+    where
+      room-left : realsUsed d + length (numbers rs) < room .reals
+      room-left = let h = subst (AtPhase room d) (sym q) (at-phase text table reals room s I) in omega (arith, room-inv (realsUsed d + (length rs + suc j)) (room .reals) (h .2), numbers-length rs)
   sees (busy m atAliasName) q f g = tt
   sees (busy m (atTarget n)) q f g = subst (λ (x : ℕ). (latest w d ≡ x) × FoundAs es w (draftIn table x) x) (sym g) looked
 
-  -- what the step says of a word, of so many bytes, with u reals stored and f looked up
-  abbrev Steps : ℕ → Phase → ℕ → ℕ → Type 0
-  Steps n ph u f = Goes (suc (s .at + n)) es ph (wordEnded (settingsOf room) (s .at) w ph (I .places) es) (stepOf (image (suc (s .at + n)) d ph (I .places) .phase) w room (image (suc (s .at + n)) d ph (I .places)) (seenBy table reals (s .at) n u f))
+  -- what is seen of a word of n bytes, u reals stored and f looked up, before its numbers are clipped
+  abbrev plain : (n u f : ℕ) → Seen
+  plain n u f = record { place = s .at; name = s .at; size = n; used = u; found = f; source = draftIn table f; previous = back reals u 1; first = back reals u 2 }
 
-  steps : wordFault w ≡ 0 → (ph : Phase) → ph ≡ I .phase → (u : ℕ) → u ≡ realsUsed d + length (openReals ph) → (f : ℕ) → f ≡ lookedFor (image (suc (s .at + len)) d ph (I .places) .phase) X → Steps len ph u f
-  steps fine ph q u v f g = subst (λ (n : ℕ). Steps n ph u f) (word-length text table reals room s len W) (subst (λ (u : ℕ). Steps (length w) ph u f) (sym v)
-      (follows (settingsOf room) room es (I .places) (s .at) w (realsUsed d + length (openReals ph)) f (draftIn table f) (back reals (realsUsed d + length (openReals ph)) 1) (back reals (realsUsed d + length (openReals ph)) 2) ph (sees ph q f g) refl refl fine))
+  small : (n : ℕ) → n ≤ 65536 → n ≡ clipped n
+  small n h = omega arith
+
+  plain-seen : (u f : ℕ) → u ≤ 4096 → f ≤ 1024 → plain len u f ≡ seenBy table reals (s .at) len u f
+  plain-seen u f hu hf =
+      let e = word-fits text table reals room s len W in
+      let short = I .short in
+      λ i. record { place = s .at; name = small (s .at) (omega arith) i; size = small len (omega arith) i; used = small u (omega arith) i; found = small f (omega arith) i; source = draftIn table f; previous = back reals u 1; first = back reals u 2 }
+
+  -- what the step says of it
+  abbrev Steps : ℕ → Phase → Seen → Type 0
+  Steps n ph v = Goes (suc (s .at + n)) es ph (wordEnded room (s .at) w ph (I .places) es) (stepOf (image (suc (s .at + n)) d ph (I .places) .phase) w room (image (suc (s .at + n)) d ph (I .places)) v)
+
+  steps : wordFault w ≡ 0 → (ph : Phase) → ph ≡ I .phase → (u : ℕ) → u ≡ realsUsed d + length (openReals ph) → (f : ℕ) → f ≡ lookedFor (image (suc (s .at + len)) d ph (I .places) .phase) X → Steps len ph (seenBy table reals (s .at) len u f)
+  steps fine ph q u v f g =
+      subst (Steps len ph) (plain-seen u f (omega (arith, v, ap (λ (z : Phase). length (openReals z)) q, used-is text table reals room s I, used-room text table reals room s I .1)) few)
+      (subst (λ (n : ℕ). Steps n ph (plain n u f)) (word-length text table reals room s len W) (subst (λ (u : ℕ). Steps (length w) ph (plain (length w) u f)) (sym v)
+      (follows room es (I .places) (s .at) w (realsUsed d + length (openReals ph)) f (draftIn table f) (back reals (realsUsed d + length (openReals ph)) 1) (back reals (realsUsed d + length (openReals ph)) 2) ph (sees ph q f g) fine)))
+    where
+      few : f ≤ 1024
+      few = omega (arith, g, looked-le (image (suc (s .at + len)) d ph (I .places) .phase) X (length d) (latest-in-le text table w (length d)), count-few text table reals room s I)
+
+  rows-is : latestIn text table w (min (length d) (length table / width)) ≡ X
+  rows-is = ap (latestIn text table w) (in-rows text table reals room s I)
 
   pub steps-as : wordFault w ≡ 0 → Stepped text table reals room s len (stepOf (s .phase) w room (movedTo s (s .at + len + 1)) (seenIn text table reals (movedTo s (s .at + len + 1)) (s .at) len))
   unfolding isLookedUp
-  steps-as fine = record { stands = W; goes = subst (λ (t : State). Goes (suc (s .at + len)) es (I .phase) (wordEnded (settingsOf room) (s .at) w (I .phase) (I .places) es) (stepOf (t .phase) w room t (seenIn text table reals t (s .at) len))) (sym (ap (movedTo s) (add-one (s .at + len)) ∙ moved-image text table reals room s I (suc (s .at + len)))) (go (I .phase) refl) }
+  steps-as fine = record { stands = W; goes = subst (λ (t : State). Goes (suc (s .at + len)) es (I .phase) (wordEnded room (s .at) w (I .phase) (I .places) es) (stepOf (t .phase) w room t (seenIn text table reals t (s .at) len))) (sym (ap (movedTo s) (add-one (s .at + len)) ∙ moved-image text table reals room s I (suc (s .at + len)))) (go (I .phase) refl) }
     where
-      go : (ph : Phase) → ph ≡ I .phase → Goes (suc (s .at + len)) es ph (wordEnded (settingsOf room) (s .at) w ph (I .places) es) (stepOf (image (suc (s .at + len)) d ph (I .places) .phase) w room (image (suc (s .at + len)) d ph (I .places)) (seenIn text table reals (image (suc (s .at + len)) d ph (I .places)) (s .at) len))
-      go idle q = steps fine idle q (realsUsed d) (sym (add-zero (realsUsed d))) X refl
-      go (busy m p) q = steps fine (busy m p) q (realsUsed d + length (partReals p)) refl (lookedFor (phaseOf p) X) refl
+      go : (ph : Phase) → ph ≡ I .phase → Steps len ph (seenIn text table reals (image (suc (s .at + len)) d ph (I .places)) (s .at) len)
+      go idle q = steps fine idle q (realsUsed d) (sym (add-zero (realsUsed d))) _ rows-is
+      go (busy m p) q = steps fine (busy m p) q (realsUsed d + length (partReals p)) refl _ (ap (lookedFor (phaseOf p)) rows-is)
 
   -- a real is stored
   pub stores : (s′ : State) (x : Float) → On (suc (s .at + len)) es (I .phase) (reached text table reals room s len W) s′ (x ∷ []) → s .used < length reals
-  stores s′ x N = omega (arith, used-is text table reals room s I, room-at (settingsOf room) d (N .phase) later, reals-room text table reals room s I, ap length (N .reals), length-append (openReals (I .phase)) (x ∷ []))
+  stores s′ x N = omega (arith, used-is text table reals room s I, room-at room d (N .phase) later, reals-room text table reals room s I, ap length (N .reals), length-append (openReals (I .phase)) (x ∷ []))
     where
-      later : AtPhase (settingsOf room) d (N .phase)
-      later = going-sound (settingsOf room) (done text table reals room s len W) (record { at = suc (s .at + len); mode = gap; phase = N .phase; places = N .places; above = es }) (comes text table reals room s len W ∙ N .goes)
+      later : AtPhase room d (N .phase)
+      later = going-sound room (done text table reals room s len W) (record { at = suc (s .at + len); mode = gap; phase = N .phase; places = N .places; above = es }) (comes text table reals room s len W ∙ N .goes)
 
   -- a statement is complete
   module _ (s′ : State) (xs : List Float) (N : Done (suc (s .at + len)) es (I .phase) (reached text table reals room s len W) s′ xs) where
     abbrev g : Going
     g = record { at = suc (s .at + len); mode = gap; phase = idle; places = N .places; above = N .entry ∷ es }
 
-    came : run (settingsOf room) initial (done text table reals room s len W) ≡ going g
+    came : run room initial (done text table reals room s len W) ≡ going g
     came = comes text table reals room s len W ∙ N .goes
 
     later : Linked (statements (N .entry ∷ es)) × (length (statements (N .entry ∷ es)) ≤ room .records) × (realsUsed (statements (N .entry ∷ es)) ≤ room .reals)
-    later = fit-forth (settingsOf room) (statements (N .entry ∷ es)) (going-sound (settingsOf room) (done text table reals room s len W) g came)
+    later = fit-forth room (statements (N .entry ∷ es)) (going-sound room (done text table reals room s len W) g came)
 
     all-later : AllRead (text ++ newline) (N .entry ∷ es)
-    all-later = all-there text table reals room s len W (N .entry ∷ es) (all-read (settingsOf room) (done text table reals room s len W) g came)
+    all-later = all-there text table reals room s len W (N .entry ∷ es) (all-read room (done text table reals room s len W) g came)
 
     pub stores-last : realsUsed d + length (realsIn (N .entry .statement .body)) ≤ length reals
     unfolding statements realsUsed
@@ -203,18 +234,8 @@ module _ (text : Bytes) (table : List ℕ) (reals : List Float) (room : Room) (s
     unfolding statements
     count-room = let f = later .1 in (omega (arith, records-room text table reals room s I), omega (arith, records-room text table reals room s I))
 
-    pub enter-ready : Enters text table (s′ .count) (s′ .draft)
-    unfolding recordOf
-    enter-ready =
-        let n : s′ .draft .name ≡ N .entry .places .name = ap (λ (z : Record). z .name) (N .own) in
-        let m : s′ .draft .size ≡ length (N .entry .statement .name) = ap (λ (z : Record). z .nameLength) (N .own) in
-        let f : s′ .draft .name + s′ .draft .size ≤ length text = omega (arith, all-later .0 .name .fits, length-append text newline) in
-        let c : s .count ≡ s′ .count = count-is text table reals room s I ∙ sym (N .count) in
-        record {
-          search = subst (λ (k : ℕ). Searchable text table k (s′ .draft .name) (s′ .draft .size)) c (searching text table reals room s I (s′ .draft .name) (s′ .draft .size) f);
-          room = omega (arith, N .count, count-room .0);
-          few = omega (arith, N .count, count-room .1);
-        }
+    pub count-fits : s′ .count ≤ 1024
+    count-fits = omega (arith, N .count, count-room .1)
 
     pub entered : enteredIn text table (s′ .count) (s′ .draft) ≡ filled 0 (length table) (flat (records (N .entry ∷ es)))
-    entered = enters text table (N .entry) es (s′ .draft) (I .stored) all-later (N .own) (s′ .count) (N .count) (omega (arith, N .count, count-room .0))
+    entered = enters text table (N .entry) es (s′ .draft) (I .stored) all-later (N .own) (s′ .count) (N .count) count-fits (omega (arith, N .count, count-room .0))

@@ -3,9 +3,10 @@ use mathlib.Core.Bool.{Bool, true, false, cond}
 use mathlib.Core.List.{List, [], _∷_, _++_}
 use mathlib.Core.Option.{Option, none, some}
 use mathlib.Core.Path.{_≡_, refl, ap, sym, _∙_, subst}
-use Prim.Native.Nat.{ℕ, zero, suc, _+_, _-_}
+use Prim.Native.Nat.{ℕ, zero, suc, _+_, _-_, _<_}
 use native.Mathlib.Nat.{add-zero}
 use native.Mathlib.Omega.{arith}
+use borrow.Author.Tests.{lt-ltb}
 use lib.Dec.{leb, ltb}
 use lib.Ieee.{Float}
 use lib.ListN.{length, length-append}
@@ -13,26 +14,28 @@ use Rattle.laws.specs.Bytes.{Bytes, same, bytes}
 use Rattle.lexer.specs.Word.{wordFault}
 use Rattle.numeral.specs.Count.{countOf}
 use Rattle.numeral.specs.Numeral.{numeralOf, value, refusal, Answer as Numeral}
-use Rattle.reader.proofs.SeenLaws.{sourceDraft, FoundAs}
+use Rattle.linker.proofs.SeenLaws.{sourceDraft, FoundAs}
 use Rattle.reader.specs.Goes.{wordEnded, Goes}
-use Rattle.reader.specs.Image.{opened, image, partReals}
-use Rattle.reader.specs.Steps.{goingTo, integerCountStep, realLeft, modifierStep, realCounted, stringCounted, withTarget, withString, realCountStep, stringCountStep, realRead, stringsTo, withName, linkTo, typedAs, stringStep, realStep, kindStep, targetStep, stepOf, integerCounted, realsTo, nameStep, targetAt}
-use Rattle.reader.specs.declared.state.Draft.{Draft}
-use Rattle.reader.specs.declared.state.Room.{Room}
-use Rattle.reader.specs.declared.state.Seen.{Seen}
-use Rattle.reader.specs.declared.state.State.{State}
-use Rattle.reader.specs.declared.state.Step.{Step}
+use Rattle.reader.specs.Image.{image, partReals}
+use Rattle.parser.specs.Steps.{integerCountStep, realLeft, realCounted, stringCounted, withString, realCountStep, stringCountStep, realRead, stringsTo, stringStep, realStep, stepOf, integerCounted, realsTo}
+use Rattle.statement.specs.Heads.{goingTo, modifierStep, withTarget, withName, linkTo, typedAs, kindStep, targetStep, nameStep, targetAt}
+use Rattle.statement.specs.States.{opened}
+use Rattle.statement.specs.declared.Draft.{Draft}
+use Rattle.scene.specs.declared.Settings.{Settings}
+use Rattle.statement.specs.declared.Seen.{Seen}
+use Rattle.statement.specs.declared.State.{State}
+use Rattle.statement.specs.declared.Step.{Step}
 use Rattle.scene.proofs.TellsLaws.{numbers-length, string-here, string-below, resolve-tail, tail-length}
 use Rattle.scene.specs.HouseRules.{breachAt, breach, houseRules}
 use Rattle.scene.specs.Links.{typeIn, modifierLink, stringsIn, latest, gives, realsUsed, realsIn, resolve, definition, bodyOf, firstLater}
 use Rattle.scene.specs.Phase.{integerCount, Outcome, fault, idle, busy, Phase, atIntegerCount, atTarget, into, done, stringCount, typed, atReal, turn, unlessFault, realCount, atType, taken, atStringCount, atAliasName, outcome, atName, strings, reals, atRealCount, real, Turn, onto, Part, atString}
 use Rattle.scene.specs.Reading.{settle, modifierTest, Places, Entry, statements, targetTest, note, roomTest, test, atEnd}
 use Rattle.scene.specs.Record.{recordOf, stringPlace, firstReal, unlessNone}
-use Rattle.scene.specs.Settings.{Settings}
+use Rattle.scene.specs.declared.Settings.{Settings}
 use Rattle.scene.specs.Types.{isSurface, stringsAllowed, realsAllowed, typeNumber}
 use Rattle.scene.specs.Statement.{alias, Statement, Literal, void, numbers, Body, literal, primitive}
-use Rattle.reader.specs.declared.state.Phase.the-variants as is
-use Rattle.reader.specs.declared.state.Step.the-variants as to
+use Rattle.statement.specs.declared.Phase.the-variants as is
+use Rattle.statement.specs.declared.Step.the-variants as to
 
 numbers-snoc : (rs : List Literal) (w : Bytes) (x : Float) → numbers (rs ++ literal w x ∷ []) ≡ numbers rs ++ x ∷ []
 numbers-snoc [] w x = refl
@@ -44,7 +47,7 @@ none-snoc (y ∷ xs) x n = refl
 
 -- a word w that stands from p on, after the statements es; u reals are stored, and its name leads to record `number` with the
 -- draft o; y and z are the two reals before
-module _ (r : Settings) (room : Room) (es : List Entry) (k : Places) (p : ℕ) (w : Bytes) (u number : ℕ) (o : Draft) (y z : Float) where
+module _ (r : Settings) (es : List Entry) (k : Places) (p : ℕ) (w : Bytes) (u number : ℕ) (o : Draft) (y z : Float) where
   abbrev v : Seen
   v = record { place = p; name = p; size = length w; used = u; found = number; source = o; previous = y; first = z }
 
@@ -58,9 +61,9 @@ module _ (r : Settings) (room : Room) (es : List Entry) (k : Places) (p : ℕ) (
   abbrev Follows : Phase → Outcome → ℕ → Step → Type 0
   Follows ph a t s = Goes after es ph (settle (atEnd p w ph k es) a t) s
 
-  step-modifier : latest w d ≡ number → FoundAs es w o number → room .records ≡ r .records → Follows idle (taken r idle w) (test r d idle w) (modifierStep w (room .records) (image after d idle k) v)
+  step-modifier : latest w d ≡ number → FoundAs es w o number → Follows idle (taken r idle w) (test r d idle w) (modifierStep w (r .records) (image after d idle k) v)
   unfolding modifierStep
-  step-modifier l f q = subst (λ (n : ℕ). Follows idle (taken r idle w) (test r d idle w) (cond (ltb (length d) n) (cond (same w void) (goingTo s is.Kind 0 (opened 0)) (linkTo s p number)) (to.Refused 6 p))) (sym q) (go (ltb (length d) (r .records)) (same w void) refl number l f)
+  step-modifier l f = go (ltb (length d) (r .records)) (same w void) refl number l f
     where
       s : State
       s = image after d idle k
@@ -156,10 +159,10 @@ module _ (r : Settings) (room : Room) (es : List Entry) (k : Places) (p : ℕ) (
     complete : Part → (n : Bytes) → Body → Entry
     complete pt n b = record { statement = record { modifier = m; name = n; body = b }; places = note (busy m pt) p k; end = p + length w }
 
-    step-real-count : (t : ℕ) (n : Bytes) (ss : List Bytes) → u ≡ realsUsed d → room .reals ≡ r .reals
-        → Follows (busy m (atRealCount t n ss)) (taken r (busy m (atRealCount t n ss)) w) (test r d (busy m (atRealCount t n ss)) w) (realCountStep w (room .reals) (before (atRealCount t n ss)) v)
+    step-real-count : (t : ℕ) (n : Bytes) (ss : List Bytes) → u ≡ realsUsed d
+        → Follows (busy m (atRealCount t n ss)) (taken r (busy m (atRealCount t n ss)) w) (test r d (busy m (atRealCount t n ss)) w) (realCountStep w (r .reals) (before (atRealCount t n ss)) v)
     unfolding realCountStep recordOf statements gives firstLater complete
-    step-real-count t n ss f q = subst (λ (R : ℕ). Follows (busy m (atRealCount t n ss)) (taken r (busy m (atRealCount t n ss)) w) (test r d (busy m (atRealCount t n ss)) w) (realCounted R (before (atRealCount t n ss)) v (countOf w))) (sym q) (go (countOf w))
+    step-real-count t n ss f = go (countOf w)
       where
         e : Entry
         e = complete (atRealCount t n ss) n (primitive t ss [])
@@ -181,10 +184,10 @@ module _ (r : Settings) (room : Room) (es : List Entry) (k : Places) (p : ℕ) (
         go none = refl
         go (some j) = allowed (realsAllowed t j) j
 
-    step-real : (t : ℕ) (n : Bytes) (ss : List Bytes) (rs : List Literal) (j : ℕ) → ((x : Float) → breachAt houseRules t (length rs + suc j - j) x y z ≡ breach t (numbers rs ++ x ∷ []))
-        → FollowsPart (atReal t n ss rs j) (turn r (atReal t n ss rs j) w) (realStep w (before (atReal t n ss rs j)) v)
+    step-real : (t : ℕ) (n : Bytes) (ss : List Bytes) (rs : List Literal) (j : ℕ) → realsUsed d + length (numbers rs) < r .reals → ((x : Float) → breachAt houseRules t (length rs + suc j - j) x y z ≡ breach t (numbers rs ++ x ∷ []))
+        → FollowsPart (atReal t n ss rs j) (turn r (atReal t n ss rs j) w) (realStep w (r .reals) (before (atReal t n ss rs j)) v)
     unfolding realStep recordOf statements gives firstLater complete
-    step-real t n ss rs j f = go (numeralOf w)
+    step-real t n ss rs j l f = go (numeralOf w)
       where
         more : Float → List Literal
         more x = rs ++ literal w x ∷ []
@@ -212,10 +215,14 @@ module _ (r : Settings) (room : Room) (es : List Entry) (k : Places) (p : ℕ) (
             let c : length rs + suc (suc i) ≡ length (rs ++ literal w x ∷ []) + suc i = omega (arith, length-append rs (literal w x ∷ [])) in
             record { phase = busy m (atReal t n ss (rs ++ literal w x ∷ []) i); places = note (busy m (atReal t n ss rs (suc i))) p k; goes = refl; is = (λ h. record { at = after; count = length d; used = used x h; left = i; phase = is.Real; draft = record { kind = t; modifier = modifierLink m d; target = 0; name = k .name; size = length n; string = k .string; strings = length ss; real = realsUsed d; reals = c h } }); reals = numbers-snoc rs w x }
 
-        go : (x : Numeral) → FollowsPart (atReal t n ss rs j) (real t n ss rs j w x) (realRead (before (atReal t n ss rs j)) v x)
+        -- there is room
+        room : (q : Bool) (x : Float) → FollowsPart (atReal t n ss rs j) (cond q (fault 16) (reals t n ss (rs ++ literal w x ∷ []) j)) (cond q (to.Refused 16 p) (cond (ltb (realsUsed d + length (numbers rs)) (r .reals)) (realLeft (before (atReal t n ss rs j)) x j) (to.Refused 13 p)))
+        room q x = subst (λ (b : Bool). FollowsPart (atReal t n ss rs j) (cond q (fault 16) (reals t n ss (rs ++ literal w x ∷ []) j)) (cond q (to.Refused 16 p) (cond b (realLeft (before (atReal t n ss rs j)) x j) (to.Refused 13 p)))) (sym (lt-ltb (realsUsed d + length (numbers rs)) (r .reals) l)) (left q x j)
+
+        go : (x : Numeral) → FollowsPart (atReal t n ss rs j) (real t n ss rs j w x) (realRead (r .reals) (before (atReal t n ss rs j)) v x)
         go (refusal n) = refl
-        go (value x) = subst (λ (q : Bool). FollowsPart (atReal t n ss rs j) (cond (breach t (numbers (rs ++ literal w x ∷ []))) (fault 16) (reals t n ss (rs ++ literal w x ∷ []) j)) (cond q (to.Refused 16 p) (realLeft (before (atReal t n ss rs j)) x j)))
-            (ap (breach t) (numbers-snoc rs w x) ∙ sym (f x)) (left (breach t (numbers (rs ++ literal w x ∷ []))) x j)
+        go (value x) = subst (λ (q : Bool). FollowsPart (atReal t n ss rs j) (cond (breach t (numbers (rs ++ literal w x ∷ []))) (fault 16) (reals t n ss (rs ++ literal w x ∷ []) j)) (cond q (to.Refused 16 p) (cond (ltb (realsUsed d + length (numbers rs)) (r .reals)) (realLeft (before (atReal t n ss rs j)) x j) (to.Refused 13 p))))
+            (ap (breach t) (numbers-snoc rs w x) ∙ sym (f x)) (room (breach t (numbers (rs ++ literal w x ∷ []))) x)
 
     step-target : (n : Bytes) → latest w d ≡ number → FoundAs es w o number
         → Follows (busy m (atTarget n)) (taken r (busy m (atTarget n)) w) (test r d (busy m (atTarget n)) w) (targetStep (before (atTarget n)) v)
@@ -256,7 +263,7 @@ module _ (r : Settings) (room : Room) (es : List Entry) (k : Places) (p : ℕ) (
   Sees idle = (latest w d ≡ number) × FoundAs es w o number
   Sees (busy m (atTarget n)) = (latest w d ≡ number) × FoundAs es w o number
   Sees (busy m (atRealCount t n ss)) = u ≡ realsUsed d
-  Sees (busy m (atReal t n ss rs j)) = (x : Float) → breachAt houseRules t (length rs + suc j - j) x y z ≡ breach t (numbers rs ++ x ∷ [])
+  Sees (busy m (atReal t n ss rs j)) = (realsUsed d + length (numbers rs) < r .reals) × ((x : Float) → breachAt houseRules t (length rs + suc j - j) x y z ≡ breach t (numbers rs ++ x ∷ []))
   Sees (busy m atType) = Unit {0}
   Sees (busy m (atName t)) = Unit {0}
   Sees (busy m (atStringCount t n)) = Unit {0}
@@ -264,19 +271,19 @@ module _ (r : Settings) (room : Room) (es : List Entry) (k : Places) (p : ℕ) (
   Sees (busy m (atIntegerCount t n ss)) = Unit {0}
   Sees (busy m atAliasName) = Unit {0}
 
-  step-taken : (ph : Phase) → Sees ph → room .records ≡ r .records → room .reals ≡ r .reals → Follows ph (taken r ph w) (test r d ph w) (stepOf (image after d ph k .phase) w room (image after d ph k) v)
-  step-taken idle h q₁ q₂ = step-modifier (h .0) (h .1) q₁
-  step-taken (busy m atType) h q₁ q₂ = step-kind m
-  step-taken (busy m (atName t)) h q₁ q₂ = step-name m t
-  step-taken (busy m (atStringCount t n)) h q₁ q₂ = step-string-count m t n
-  step-taken (busy m (atString t n [] j)) h q₁ q₂ = step-first-string m t n j
-  step-taken (busy m (atString t n (x ∷ ss) j)) h q₁ q₂ = step-string m t n x ss j
-  step-taken (busy m (atIntegerCount t n ss)) h q₁ q₂ = step-integer-count m t n ss
-  step-taken (busy m (atRealCount t n ss)) h q₁ q₂ = step-real-count m t n ss h q₂
-  step-taken (busy m (atReal t n ss rs j)) h q₁ q₂ = step-real m t n ss rs j h
-  step-taken (busy m atAliasName) h q₁ q₂ = step-alias-name m
-  step-taken (busy m (atTarget n)) h q₁ q₂ = step-target m n (h .0) (h .1)
+  step-taken : (ph : Phase) → Sees ph → Follows ph (taken r ph w) (test r d ph w) (stepOf (image after d ph k .phase) w r (image after d ph k) v)
+  step-taken idle h = step-modifier (h .0) (h .1)
+  step-taken (busy m atType) h = step-kind m
+  step-taken (busy m (atName t)) h = step-name m t
+  step-taken (busy m (atStringCount t n)) h = step-string-count m t n
+  step-taken (busy m (atString t n [] j)) h = step-first-string m t n j
+  step-taken (busy m (atString t n (x ∷ ss) j)) h = step-string m t n x ss j
+  step-taken (busy m (atIntegerCount t n ss)) h = step-integer-count m t n ss
+  step-taken (busy m (atRealCount t n ss)) h = step-real-count m t n ss h
+  step-taken (busy m (atReal t n ss rs j)) h = step-real m t n ss rs j (h .0) (h .1)
+  step-taken (busy m atAliasName) h = step-alias-name m
+  step-taken (busy m (atTarget n)) h = step-target m n (h .0) (h .1)
 
-  pub follows : (ph : Phase) → Sees ph → room .records ≡ r .records → room .reals ≡ r .reals → wordFault w ≡ 0
-      → Goes after es ph (wordEnded r p w ph k es) (stepOf (image after d ph k .phase) w room (image after d ph k) v)
-  follows ph h q₁ q₂ g = subst (λ (a : Outcome). Follows ph a (test r d ph w) (stepOf (image after d ph k .phase) w room (image after d ph k) v)) (λ i. unlessFault (sym g i) (taken r ph w)) (step-taken ph h q₁ q₂)
+  pub follows : (ph : Phase) → Sees ph → wordFault w ≡ 0
+      → Goes after es ph (wordEnded r p w ph k es) (stepOf (image after d ph k .phase) w r (image after d ph k) v)
+  follows ph h g = subst (λ (a : Outcome). Follows ph a (test r d ph w) (stepOf (image after d ph k .phase) w r (image after d ph k) v)) (λ i. unlessFault (sym g i) (taken r ph w)) (step-taken ph h)

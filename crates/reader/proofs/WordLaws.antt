@@ -15,10 +15,11 @@ use Rattle.lexer.specs.Class.{isOther, isBlank}
 use Rattle.lexer.specs.Word.{wordFault}
 use Rattle.reader.proofs.MoveLaws.{ahead, place, opens-word, on}
 use Rattle.reader.specs.Goes.{wordEnded, On, Done}
-use Rattle.reader.specs.Image.{between, image, openReals}
-use Rattle.reader.specs.Invariant.{AtWord, Inv, openingOf, result, settingsOf, roomIn}
-use Rattle.reader.specs.declared.state.Room.{Room}
-use Rattle.reader.specs.declared.state.State.{State}
+use Rattle.reader.specs.Image.{image, openReals}
+use Rattle.reader.specs.Invariant.{AtWord, Inv, result}
+use Rattle.statement.specs.States.{between, openingOf}
+use Rattle.scene.specs.declared.Settings.{Settings}
+use Rattle.statement.specs.declared.State.{State}
 use Rattle.scene.proofs.EdgeLaws.{run-stopped, run-append, part-noted}
 use Rattle.scene.proofs.PlaceLaws.{all-on, AllRead}
 use Rattle.scene.proofs.TellsLaws.{reals-count}
@@ -27,8 +28,8 @@ use Rattle.scene.specs.HouseRules.{zeroReal}
 use Rattle.scene.specs.Links.{realsIn, realsUsed, realsAdded}
 use Rattle.scene.specs.Phase.{unlessFault, busy, idle, taken, Phase}
 use Rattle.scene.specs.Reading.{run, refused, first, settle, stopped, goingAt, statements, gap, begins, finish, initial, Entry, Places, newline, note, test, atEnd}
-use Rattle.scene.specs.Record.{flat, realTable, records, filled}
-use Rattle.scene.specs.Settings.{Settings}
+use Rattle.scene.specs.Record.{settingsFor, flat, realTable, records, filled}
+use Rattle.scene.specs.declared.Settings.{Settings}
 use Rattle.scene.specs.Reading as reading
 use Rattle.scene.specs.Record as table-of
 
@@ -44,7 +45,7 @@ pub record Word (text : Bytes) (r : Settings) (n len : ℕ) (ph : Phase) (k : Pl
   pub size : suc (n + len) ≡ n + length x
   pub runs : run r (goingAt n gap ph k es) x ≡ wordEnded r n (part text n len) ph k es
 
-module _ (text : Bytes) (table : List ℕ) (reals : List Float) (room : Room) (s : State) (len : ℕ) (W : AtWord text table reals room s len) where
+module _ (text : Bytes) (table : List ℕ) (reals : List Float) (room : Settings) (s : State) (len : ℕ) (W : AtWord text table reals room s len) where
   abbrev I : Inv text table reals room s
   I = W .inv
 
@@ -60,15 +61,15 @@ module _ (text : Bytes) (table : List ℕ) (reals : List Float) (room : Room) (s
   pub word-length : length w ≡ len
   word-length = length-take-le len (drop (s .at) text) (omega (arith, word-fits, length-drop (s .at) text))
 
-  pub reads : Word text (settingsOf room) (s .at) len (I .phase) (I .places) (I .above)
+  pub reads : Word text room (s .at) len (I .phase) (I .places) (I .above)
   unfolding run rest isOther isBlank
   reads = record {
     x = w ++ beh .first ∷ [];
     y = beh .rest;
     split = drop-append-le (s .at) text newline (omega (arith, W .here)) ∙ ap {B = Bytes} (λ (z : Bytes). z ++ newline) (sym (take-append-drop len rest)) ∙ append-assoc w (drop len rest) newline ∙ ap {B = Bytes} (λ (z : Bytes). w ++ z) behind ∙ sym (append-assoc w (beh .first ∷ []) (beh .rest));
     size = omega (arith, length-append w (beh .first ∷ []), word-length);
-    runs = subst (λ (z : Bytes). all isOther z ≡ true → run (settingsOf room) (goingAt (s .at) gap (I .phase) (I .places) (I .above)) (z ++ beh .first ∷ []) ≡ wordEnded (settingsOf room) (s .at) z (I .phase) (I .places) (I .above)) (sym begun)
-        (λ h. run-word (settingsOf room) (I .phase) (I .above) (s .at) (I .places) c (take (longest isOther t) t) (beh .first) [] h (not-false (isBlank (beh .first)) (beh .fails)) opens)
+    runs = subst (λ (z : Bytes). all isOther z ≡ true → run room (goingAt (s .at) gap (I .phase) (I .places) (I .above)) (z ++ beh .first ∷ []) ≡ wordEnded room (s .at) z (I .phase) (I .places) (I .above)) (sym begun)
+        (λ h. run-word room (I .phase) (I .above) (s .at) (I .places) c (take (longest isOther t) t) (beh .first) [] h (not-false (isBlank (beh .first)) (beh .fails)) opens)
         (ap (λ (n : ℕ). all isOther (take n rest)) (W .size) ∙ run-all isOther rest);
   }
     where
@@ -94,12 +95,12 @@ module _ (text : Bytes) (table : List ℕ) (reals : List Float) (room : Room) (s
       opens = opens-word (length (I .done)) (statements (I .above)) (I .places) c (I .phase) (ap (λ (z : State). openingOf (z .phase) c) (sym (I .is)) ∙ W .opens)
 
   abbrev pub reached : reading.State
-  reached = wordEnded (settingsOf room) (s .at) w (I .phase) (I .places) (I .above)
+  reached = wordEnded room (s .at) w (I .phase) (I .places) (I .above)
 
   abbrev pub done : Bytes
   done = I .done ++ reads .x
 
-  pub comes : run (settingsOf room) initial done ≡ reached
+  pub comes : run room initial done ≡ reached
   comes = on text table reals room s I (reads .x) ∙ reads .runs
 
   splits : text ++ newline ≡ done ++ reads .y
@@ -110,10 +111,10 @@ module _ (text : Bytes) (table : List ℕ) (reals : List Float) (room : Room) (s
 
   -- the word is refused
   pub refuses : (n p : ℕ) → reached ≡ stopped n p → result text room ≡ refused n p
-  refuses n p h = ap (finish (length text)) (ap (run (settingsOf room) initial) splits ∙ run-append (settingsOf room) initial done (reads .y) ∙ ap (λ (z : reading.State). run (settingsOf room) z (reads .y)) (comes ∙ h) ∙ run-stopped (settingsOf room) n p (reads .y))
+  refuses n p h = ap (finish (length text)) (ap (run room initial) splits ∙ run-append room initial done (reads .y) ∙ ap (λ (z : reading.State). run room z (reads .y)) (comes ∙ h) ∙ run-stopped room n p (reads .y))
 
   pub faulty : (n : ℕ) → wordFault w ≡ suc n → result text room ≡ refused (suc n) (s .at)
-  faulty n h = refuses (suc n) (s .at) ((λ i. settle (atEnd (s .at) w (I .phase) (I .places) (I .above)) (unlessFault (h i) (taken (settingsOf room) (I .phase) w)) (test (settingsOf room) (statements (I .above)) (I .phase) w)) ∙ ap (stopped (suc n)) (note-word (I .phase) (s .at) (I .places)))
+  faulty n h = refuses (suc n) (s .at) ((λ i. settle (atEnd (s .at) w (I .phase) (I .places) (I .above)) (unlessFault (h i) (taken room (I .phase) w)) (test room (statements (I .above)) (I .phase) w)) ∙ ap (stopped (suc n)) (note-word (I .phase) (s .at) (I .places)))
 
   -- all that has been read stands in the text
   pub all-there : (es : List Entry) → AllRead done es → AllRead (text ++ newline) es
@@ -132,7 +133,7 @@ module _ (text : Bytes) (table : List ℕ) (reals : List Float) (room : Room) (s
     is = N .is ∙ ap (λ (n : ℕ). image n (statements (I .above)) (N .phase) (N .places)) length-read;
     stored = I .stored;
     doubles = h ∙ (λ i. filled zeroReal (sym l i) ((append-assoc (realTable (I .above)) (openReals (I .phase)) xs ∙ ap {B = List Float} (λ (z : List Float). realTable (I .above) ++ z) (sym (N .reals))) i));
-    rooms = I .rooms ∙ ap (roomIn (length table)) (sym l);
+    settings = I .settings ∙ ap (settingsFor (length table)) (sym l);
     short = I .short;
   }
 
@@ -152,7 +153,7 @@ module _ (text : Bytes) (table : List ℕ) (reals : List Float) (room : Room) (s
     is = q ∙ (λ i. between ((N .place ∙ length-read) i) (count i) (total i));
     stored = h ∙ ap (λ (n : ℕ). filled 0 n (flat (records (N .entry ∷ I .above)))) (sym t);
     doubles = g ∙ (λ i. filled zeroReal (sym d i) ((append-assoc (realTable (I .above)) (openReals (I .phase)) xs ∙ ap {B = List Float} (λ (z : List Float). realTable (I .above) ++ z) (sym (N .reals)) ∙ sym (append-nil (realTable (I .above) ++ realsIn (N .entry .statement .body)))) i));
-    rooms = I .rooms ∙ (λ i. roomIn (sym t i) (sym d i));
+    settings = I .settings ∙ (λ i. settingsFor (sym t i) (sym d i));
     short = I .short;
   }
     where

@@ -8,7 +8,7 @@ use Rattle.laws.specs.Bytes.{Bytes}
 use Rattle.reader.specs.declared.Answer.{Answer}
 use Rattle.reader.specs.declared.Answer.the-variants.{Accepted, Refused}
 use Rattle.scene.specs.Reading.{read, Reading, refused, accepted}
-use Rattle.scene.specs.Record.{answer, recordImage, realImage, realTable, rooms, Answer as Numbers}
+use Rattle.scene.specs.Record.{answer, recordImage, realImage, realTable, settingsFor, Answer as Numbers}
 
 -- the answer that a reading comes to
 abbrev pub answered : Reading → Answer
@@ -20,9 +20,9 @@ abbrev pub numbersOf : Answer → Numbers
 numbersOf (Refused n p) = record { reason = n; place = p; primitives = 0; reals = 0 }
 numbersOf (Accepted n k) = record { reason = 0; place = 0; primitives = n; reals = k }
 
--- what a text means in the rooms of two lent tables
+-- what a text means at the sizes of two lent tables
 abbrev pub readInto : Bytes → List ℕ → List Float → Reading
-readInto text records reals = read (rooms (length records) (length reals)) text
+readInto text records reals = read (settingsFor (length records) (length reals)) text
 
 -- demands 1 and 2 of one call: the tables as they were lent, the answer, and the tables at exit
 pub record Reads (text : Bytes) (records : List ℕ) (reals : List Float) (r : Answer) (records′ : List ℕ) (reals′ : List Float) : Type 0 where

@@ -10,7 +10,7 @@ use Rattle.reader.specs.declared.Answer.{Answer}
 use Rattle.reader.specs.declared.Answer.the-variants.{Accepted}
 use Rattle.scene.specs.Exchange.{Exchange, exchangeShift}
 use Rattle.scene.specs.Reading.{Entry}
-use Rattle.scene.specs.Record.{recordIn, rooms}
+use Rattle.scene.specs.Record.{recordIn, settingsFor}
 use Rattle.scene.specs.Told.{tells, renumbered}
 
 -- The second call accepts with the counts of the first, and what its text and tables tell of record f i is what the first's
@@ -23,7 +23,7 @@ pub record SameButNumbers (old new : Bytes) (f : ℕ → ℕ) (n k : ℕ) (table
 abbrev pub ReaderExchange : Type 0
 ReaderExchange = (p a b q : Bytes) (es : List Entry) (lent lent′ : List ℕ) (doubles doubles′ : List Float)
     → length lent′ ≡ length lent → length doubles′ ≡ length doubles
-    → Exchange (rooms (length lent) (length doubles)) p a b q es
+    → Exchange (settingsFor (length lent) (length doubles)) p a b q es
     → (n k : ℕ) (table : List ℕ) (reals : List Float) → Reads (p ++ a ++ b ++ q) lent doubles (Accepted n k) table reals
     → (r : Answer) (table′ : List ℕ) (reals′ : List Float) → Reads (p ++ b ++ a ++ q) lent′ doubles′ r table′ reals′
     → SameButNumbers (p ++ a ++ b ++ q) (p ++ b ++ a ++ q) (exchangeShift es p a b) n k table reals r table′ reals′

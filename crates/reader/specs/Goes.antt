@@ -5,18 +5,18 @@ use Prim.Native.Nat.{ℕ, suc, _+_}
 use lib.Ieee.{Float}
 use lib.ListN.{length}
 use Rattle.laws.specs.Bytes.{Bytes, part}
-use Rattle.reader.specs.Entered.{recordFrom}
+use Rattle.linker.specs.Entered.{recordFrom}
 use Rattle.reader.specs.Image.{image, openReals}
-use Rattle.reader.specs.Invariant.{AtWord, settingsOf}
-use Rattle.reader.specs.declared.state.Room.{Room}
-use Rattle.reader.specs.declared.state.State.{State}
-use Rattle.reader.specs.declared.state.Step.{Step}
+use Rattle.reader.specs.Invariant.{AtWord}
+use Rattle.scene.specs.declared.Settings.{Settings}
+use Rattle.statement.specs.declared.State.{State}
+use Rattle.statement.specs.declared.Step.{Step}
 use Rattle.scene.specs.Links.{realsUsed, realsIn}
 use Rattle.scene.specs.Phase.{word, Phase, idle}
 use Rattle.scene.specs.Reading.{statements, settle, Entry, Places, test, stopped, gap, goingAt, atEnd}
 use Rattle.scene.specs.Record.{recordOf}
-use Rattle.scene.specs.Settings.{Settings}
-use Rattle.reader.specs.declared.state.Step.the-variants as step
+use Rattle.scene.specs.declared.Settings.{Settings}
+use Rattle.statement.specs.declared.Step.the-variants as step
 use Rattle.scene.specs.Reading as reading
 
 -- the statement goes on, with the reals xs more
@@ -45,12 +45,13 @@ Goes n es ph to (step.Real x s) = On n es ph to s (x ∷ [])
 Goes n es ph to (step.Last x s) = Done n es ph to s (x ∷ [])
 Goes n es ph to (step.Complete s) = Done n es ph to s []
 Goes n es ph to (step.Refused c p) = to ≡ stopped c p
+Goes n es ph to step.Ended = ⊥
 
 -- the definition's state after a word w that stands from p on
 abbrev pub wordEnded : Settings → ℕ → Bytes → Phase → Places → List Entry → reading.State
 wordEnded r p w ph k es = settle (atEnd p w ph k es) (word r ph w) (test r (statements es) ph w)
 
 -- a word's step, before it is done to the tables
-pub record Stepped (text : Bytes) (table : List ℕ) (reals : List Float) (room : Room) (s : State) (len : ℕ) (step : Step) : Type 0 where
+pub record Stepped (text : Bytes) (table : List ℕ) (reals : List Float) (room : Settings) (s : State) (len : ℕ) (step : Step) : Type 0 where
   pub stands : AtWord text table reals room s len
-  pub goes : Goes (suc (s .at + len)) (stands .inv .above) (stands .inv .phase) (wordEnded (settingsOf room) (s .at) (part text (s .at) len) (stands .inv .phase) (stands .inv .places) (stands .inv .above)) step
+  pub goes : Goes (suc (s .at + len)) (stands .inv .above) (stands .inv .phase) (wordEnded room (s .at) (part text (s .at) len) (stands .inv .phase) (stands .inv .places) (stands .inv .above)) step

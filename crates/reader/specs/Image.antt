@@ -3,26 +3,15 @@ use mathlib.Core.List.{List, [], _∷_}
 use Prim.Native.Nat.{ℕ, suc, _+_}
 use lib.Ieee.{Float}
 use lib.ListN.{length}
-use Rattle.reader.specs.declared.state.Draft.{Draft}
-use Rattle.reader.specs.declared.state.Phase.{Phase as CodePhase}
-use Rattle.reader.specs.declared.state.State.{State}
+use Rattle.statement.specs.declared.Draft.{Draft}
+use Rattle.statement.specs.declared.Phase.{Phase as CodePhase}
+use Rattle.statement.specs.declared.State.{State}
+use Rattle.statement.specs.States.{between}
 use Rattle.scene.specs.Links.{realsUsed, modifierLink}
 use Rattle.scene.specs.Phase.{atTarget, atStringCount, Part, atAliasName, atString, atReal, atRealCount, atType, atIntegerCount, Phase, atName, idle, busy}
 use Rattle.scene.specs.Reading.{Places}
 use Rattle.scene.specs.Statement.{numbers, Statement}
-use Rattle.reader.specs.declared.state.Phase.the-variants as is
-
--- a draft with nothing in it but the link to its modifier
-abbrev pub opened : ℕ → Draft
-opened l = record { kind = 0; modifier = l; target = 0; name = 0; size = 0; string = 0; strings = 0; real = 0; reals = 0 }
-
--- a state with its place moved
-abbrev pub movedTo : State → ℕ → State
-movedTo s n = record { at = n; count = s .count; used = s .used; left = s .left; phase = s .phase; draft = s .draft }
-
--- between two statements
-abbrev pub between : ℕ → ℕ → ℕ → State
-between n c u = record { at = n; count = c; used = u; left = 0; phase = is.Idle; draft = opened 0 }
+use Rattle.statement.specs.declared.Phase.the-variants as is
 
 -- which word comes next; the first string has a phase of its own, as only its place is kept
 abbrev pub phaseOf : Part → CodePhase

@@ -1,9 +1,5 @@
 pub mod Answer
-pub mod Lookup
 pub mod Image
-pub mod Seen
-pub mod Entered
-pub mod Steps
 pub mod Invariant
 pub mod Goes
 pub mod Exchange

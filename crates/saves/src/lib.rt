@@ -5,18 +5,12 @@ use comparison::Next;
 use comparison::Place;
 use comparison::Side;
 use comparison::State;
+use input::Loaded;
 use libc::STDOUT_FILENO;
 use reader::Answer;
 
 // As many keys as two scenes can have, and so no fewer than the lines.
 const KEYS: usize = 2048;
-
-// A file's bytes, as many as are stated; or why there are none.
-enum Loaded {
-    Text(usize),
-    TooLong,
-    Unreadable,
-}
 
 fn print(text: &[u8]) {
     io::write_all(STDOUT_FILENO, text);
@@ -102,10 +96,10 @@ fn print_lines<'a>(
 
 // Compares two texts, and prints the lines or the refusal.
 fn compare<'a>(left: &'a [u8], right: &'a [u8]) {
-    let mut left_records = [0u32; 10240];
-    let mut left_reals = [0.0f64; 4096];
-    let mut right_records = [0u32; 10240];
-    let mut right_reals = [0.0f64; 4096];
+    let mut left_records = [0u32; table::MOST_NUMBERS];
+    let mut left_reals = [0.0f64; table::MOST_REALS];
+    let mut right_records = [0u32; table::MOST_NUMBERS];
+    let mut right_reals = [0.0f64; table::MOST_REALS];
     match comparison::read_both(
         left,
         &mut left_records,
@@ -134,8 +128,8 @@ fn compare<'a>(left: &'a [u8], right: &'a [u8]) {
 
 // Whether the left text is accepted. Where it is not, its refusal is printed, and there is nothing to say of the right one.
 fn accepts_left(left: &[u8]) -> bool {
-    let mut records = [0u32; 10240];
-    let mut reals = [0.0f64; 4096];
+    let mut records = [0u32; table::MOST_NUMBERS];
+    let mut reals = [0.0f64; table::MOST_REALS];
     match reader::read(left, &mut records, &mut reals) {
         Answer::Accepted(_, _) => true,
         Answer::Refused(reason, place) => {
@@ -145,37 +139,9 @@ fn accepts_left(left: &[u8]) -> bool {
     }
 }
 
-// Reads an open file up to its end, which has to be seen: a text that a failed read cut short is no save. One byte past the
-// buffer tells a text that is too long from one that just fits.
-fn load_from(fd: i32, text: &mut [u8]) -> Loaded {
-    let n = io::read_full(fd, text);
-    let mut more = [0u8; 1];
-    let got = libc::read(fd, &mut more);
-    if got == 0 {
-        return Loaded::Text(n);
-    }
-    if (got < 0) | (n < text.len()) {
-        return Loaded::Unreadable;
-    }
-    Loaded::TooLong
-}
-
-// Reads the file that an argument names. A name too long for a path counts as empty, which is the name of no file.
-fn load(argument: usize, text: &mut [u8]) -> Loaded {
-    let mut path = io::buffer();
-    let n = os::arg(argument, &mut path);
-    let fd = os::open_read(&path[..n]);
-    if fd < 0 {
-        return Loaded::Unreadable;
-    }
-    let loaded = load_from(fd, text);
-    libc::close(fd);
-    loaded
-}
-
-fn compare_with_right(left: &[u8]) {
-    let mut right = [0u8; 65536];
-    match load(2, &mut right) {
+fn compare_with_right(left: &[u8], argument: usize) {
+    let mut right = [0u8; input::MOST_BYTES];
+    match input::load_argument(argument, &mut right) {
         Loaded::Text(n) => compare(left, lexer::part(&right, 0, n)),
         Loaded::TooLong => {
             if accepts_left(left) {
@@ -190,15 +156,11 @@ fn compare_with_right(left: &[u8]) {
     }
 }
 
-// Compares the files that the two arguments name.
-pub fn compare_arguments() {
-    if os::arg_count() != 3 {
-        print(b"usage: compare LEFT RIGHT\n");
-        return;
-    }
-    let mut left = [0u8; 65536];
-    match load(1, &mut left) {
-        Loaded::Text(n) => compare_with_right(lexer::part(&left, 0, n)),
+// Compares the files that two arguments name.
+pub fn compare_arguments(left_argument: usize, right_argument: usize) {
+    let mut left = [0u8; input::MOST_BYTES];
+    match input::load_argument(left_argument, &mut left) {
+        Loaded::Text(n) => compare_with_right(lexer::part(&left, 0, n), right_argument),
         Loaded::TooLong => print_refusal(Side::Left, 1, 0),
         Loaded::Unreadable => print_unreadable(Side::Left),
     }

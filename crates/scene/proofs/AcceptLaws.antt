@@ -11,7 +11,7 @@ use Rattle.lexer.specs.Class.{isBlank}
 use Rattle.scene.proofs.SyntaxLaws.{Step, halt, pass, after, step, onTop, chain, parse, parse-append, onTop-nil, agree, run-agree, Sound, AtPhase, OfOutcome, word-forth, word-back}
 use Rattle.scene.specs.Phase.{Phase, idle, busy, Outcome, refuse, into, done, word}
 use Rattle.scene.specs.Reading.{Mode, gap, comment, within, Move, keep, first, command, ended, move, test, Entry, Going, State, stopped, going, statements, settle, advance, run, initial, refused, accepted, finish, endIn, newline, read}
-use Rattle.scene.specs.Settings.{Settings}
+use Rattle.scene.specs.declared.Settings.{Settings}
 use Rattle.scene.specs.Statement.{Statement}
 
 -- ---- forth

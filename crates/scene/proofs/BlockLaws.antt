@@ -20,7 +20,7 @@ use Rattle.scene.specs.Block.{Block, CutsNone, EndsLine, inBlock, shift}
 use Rattle.scene.specs.Links.{realsUsed}
 use Rattle.scene.specs.Phase.{idle}
 use Rattle.scene.specs.Reading.{gap, Entry, Going, going, statements, run, initial, newline, accepted, read}
-use Rattle.scene.specs.Settings.{Settings}
+use Rattle.scene.specs.declared.Settings.{Settings}
 use Rattle.scene.specs.Statement.{Statement}
 
 -- ---- the statements of a block

@@ -16,7 +16,7 @@ use Rattle.scene.proofs.SyntaxLaws.{parse}
 use Rattle.scene.specs.Block.{CutsNone, EndsLine}
 use Rattle.scene.specs.Phase.{Part, atType, atName, atStringCount, atString, atIntegerCount, atRealCount, atReal, atAliasName, atTarget, Phase, idle, busy, Turn, fault, onto, ends, turn, Outcome, refuse, into, done, outcome, word, unlessFault}
 use Rattle.scene.specs.Reading.{Mode, gap, comment, within, Move, keep, first, command, ended, begins, move, test, Places, notePart, note, Entry, Going, State, stopped, going, statements, settle, advance, feed, run, initial}
-use Rattle.scene.specs.Settings.{Settings}
+use Rattle.scene.specs.declared.Settings.{Settings}
 
 -- ---- runs
 

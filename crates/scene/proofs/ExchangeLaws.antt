@@ -14,7 +14,7 @@ use Rattle.scene.specs.Exchange.{Renumbers, ExchangeLaw}
 use Rattle.scene.specs.Links.{realsUsed}
 use Rattle.scene.specs.Reading.{Entry, statements, accepted, read}
 use Rattle.scene.specs.Record.{records, nth, realTable}
-use Rattle.scene.specs.Settings.{Settings}
+use Rattle.scene.specs.declared.Settings.{Settings}
 use Rattle.scene.specs.Told.{told, renumbered, tells}
 use Rattle.scene.specs.Statement.{Statement}
 

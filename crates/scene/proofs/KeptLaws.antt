@@ -11,7 +11,7 @@ use Rattle.lexer.specs.Class.{isBlank}
 use Rattle.lexer.specs.Word.{wordFault}
 use Rattle.scene.specs.Phase.{Part, atType, Phase, idle, busy, Turn, fault, onto, ends, turn, Outcome, refuse, into, done, outcome, taken, word, unlessFault}
 use Rattle.scene.specs.Reading.{Mode, gap, comment, within, keep, first, command, ended, begins, move, test, Places, notePart, note, Entry, Going, State, stopped, going, statements, settle, advance, feed, run, initial}
-use Rattle.scene.specs.Settings.{Settings}
+use Rattle.scene.specs.declared.Settings.{Settings}
 use Rattle.scene.specs.Statement.{Body}
 
 -- c has been read, and now b

@@ -27,7 +27,7 @@ use Rattle.scene.specs.Links.{hits, found, head, definition, resolve, th
 use Rattle.scene.specs.Phase.{Part, atType, atName, atStringCount, atString, atIntegerCount, atRealCount, atReal, atAliasName, atTarget, Phase, idle, busy, Turn, fault, onto, ends, typed, strings, stringCount, integerCount, reals, realCount, real, turn, Outcome, refuse, into, done, outcome, taken, unlessFault, word}
 use Rattle.scene.specs.Reading.{Move, keep, first, command, ended, surfaceTest, targetTest, test, Entry, Going, State, stopped, going, statements, settle, advance, initial, accepted, newline, read}
 use Rattle.scene.specs.Record.{realTable}
-use Rattle.scene.specs.Settings.{Settings}
+use Rattle.scene.specs.declared.Settings.{Settings}
 use Rattle.scene.specs.Types.{Kind, types, typeNumber, numberFrom, stringsAllowed, realsAllowed, isSurface}
 use Rattle.scene.specs.Statement.{Literal, literal, numbers, Body, primitive, alias, Statement, void}
 use Rattle.scene.specs.Record as record·

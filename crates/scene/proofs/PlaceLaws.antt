@@ -19,7 +19,7 @@ use Rattle.scene.specs.HouseRules.{breach}
 use Rattle.scene.specs.Links.{stringsIn}
 use Rattle.scene.specs.Phase.{Part, atType, atName, atStringCount, atString, atIntegerCount, atRealCount, atReal, atAliasName, atTarget, Turn, typed, strings, stringCount, integerCount, reals, realCount, real, turn}
 use Rattle.scene.specs.Reading.{Places, notePart, Entry, Going, going, run, initial, newline}
-use Rattle.scene.specs.Settings.{Settings}
+use Rattle.scene.specs.declared.Settings.{Settings}
 use Rattle.scene.specs.Told.{wordsFrom}
 use Rattle.scene.specs.Types.{typeNumber, stringsAllowed, realsAllowed}
 use Rattle.scene.specs.Statement.{Literal, literal, numbers, Body, void}

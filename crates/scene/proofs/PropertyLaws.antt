@@ -18,7 +18,7 @@ use Rattle.scene.specs.Links.{gives, hits, found, latest, head, definiti
 use Rattle.scene.specs.Properties.{numbered, Named, LatestBelow, NextAbove}
 use Rattle.scene.specs.Reading.{Entry, accepted, read, statements, modifierTest, targetTest}
 use Rattle.scene.specs.Record.{Record, nth, records, recordOf, nextOf}
-use Rattle.scene.specs.Settings.{Settings}
+use Rattle.scene.specs.declared.Settings.{Settings}
 use Rattle.scene.specs.Statement.{Statement, Literal, Body, primitive, alias, void}
 
 -- ---- numbers

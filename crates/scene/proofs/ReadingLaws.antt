@@ -12,7 +12,7 @@ use Rattle.laws.specs.Bytes.{Bytes}
 use Rattle.scene.proofs.EdgeLaws.{part-noted, IsWithin, OkMode, OkMove, move-ok}
 use Rattle.scene.specs.Phase.{Phase, idle, busy, Outcome, refuse, into, done, word}
 use Rattle.scene.specs.Reading.{Mode, gap, comment, within, Move, keep, first, command, ended, move, test, Places, note, Entry, Going, State, stopped, going, statements, settle, advance, feed, run, initial, Reading, refused, accepted, endIn, finish, newline, read}
-use Rattle.scene.specs.Settings.{Settings}
+use Rattle.scene.specs.declared.Settings.{Settings}
 
 -- every text is accepted or refused
 pub read-or-refused : (r : Settings) (text : Bytes) → ((es : List Entry) × (read r text ≡ accepted es)) ⊎ ((n p : ℕ) × (read r text ≡ refused n p))

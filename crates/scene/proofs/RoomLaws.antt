@@ -13,7 +13,7 @@ use Rattle.scene.proofs.SwapLaws.{bodyLink, Linked, Clear, linked-swap}
 use Rattle.scene.proofs.SyntaxLaws.{roomFor, bodyTest, Sound}
 use Rattle.scene.specs.Links.{definition, realsUsed, realsAdded}
 use Rattle.scene.specs.Reading.{modifierTest}
-use Rattle.scene.specs.Settings.{Settings}
+use Rattle.scene.specs.declared.Settings.{Settings}
 use Rattle.scene.specs.Statement.{void, Body, primitive, alias, Statement}
 
 pub used-append : (X Y : List Statement) → realsUsed (X ++ Y) ≡ realsUsed X + realsUsed Y

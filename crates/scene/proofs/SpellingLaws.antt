@@ -18,7 +18,7 @@ use Rattle.scene.proofs.WordsLaws.{Spot, between, inside}
 use Rattle.scene.specs.HouseRules.{breach}
 use Rattle.scene.specs.Phase.{Part, atType, atName, atStringCount, atString, atIntegerCount, atRealCount, atReal, atAliasName, atTarget, Turn, typed, strings, stringCount, integerCount, reals, realCount, real, turn}
 use Rattle.scene.specs.Reading.{Places, notePart, Entry, newline, accepted, read}
-use Rattle.scene.specs.Settings.{Settings}
+use Rattle.scene.specs.declared.Settings.{Settings}
 use Rattle.scene.specs.Statement.{Literal, literal, numbers, numeralWords, Body, primitive, alias, void}
 use Rattle.scene.specs.Types.{typeNumber, stringsAllowed, realsAllowed}
 

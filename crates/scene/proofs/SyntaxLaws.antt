@@ -18,7 +18,7 @@ use Rattle.scene.specs.HouseRules.{breach}
 use Rattle.scene.specs.Links.{definition, realsUsed}
 use Rattle.scene.specs.Phase.{Part, atType, atName, atStringCount, atString, atIntegerCount, atRealCount, atReal, atAliasName, atTarget, Phase, idle, busy, Turn, fault, onto, ends, typed, strings, stringCount, integerCount, reals, realCount, real, turn, Outcome, refuse, into, done, outcome, taken, word, unlessFault}
 use Rattle.scene.specs.Reading.{Mode, gap, within, Move, keep, first, command, ended, move, targetTest, roomTest, partTest, test, Going, State, stopped, going, statements, settle, advance, run}
-use Rattle.scene.specs.Settings.{Settings}
+use Rattle.scene.specs.declared.Settings.{Settings}
 use Rattle.scene.specs.Types.{typeNumber, stringsAllowed, realsAllowed}
 use Rattle.scene.specs.Statement.{void, Literal, literal, numbers, Body, primitive, alias, Statement}
 

@@ -18,7 +18,7 @@ use Rattle.scene.proofs.PlaceLaws.{Says, Spelt, spelt-words, EntryRead,
 use Rattle.scene.specs.Links.{gives, hits, realsUsed, realsAdded, resolve, through, bodyOf, typeIn, stringsIn, realsIn, ownBody, modifierLink, targetLink, firstLater, source}
 use Rattle.scene.specs.Reading.{Entry, statements, newline, accepted, read}
 use Rattle.scene.specs.Record.{unlessNone, firstReal, nothing, stringPlace, recordOf, recordsFrom, records, reals, realTable, nth}
-use Rattle.scene.specs.Settings.{Settings}
+use Rattle.scene.specs.declared.Settings.{Settings}
 use Rattle.scene.specs.Told.{told, tells}
 use Rattle.scene.specs.Statement.{Literal, numbers, Body, primitive, alias, Statement}
 

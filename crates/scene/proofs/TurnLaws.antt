@@ -14,7 +14,7 @@ use Rattle.laws.specs.Runs.{all}
 use Rattle.lexer.specs.Class.{isBlank, isOther, isInLine}
 use Rattle.scene.specs.Phase.{Phase, word}
 use Rattle.scene.specs.Reading.{gap, comment, within, Move, keep, first, ended, begins, move, test, Places, note, Entry, Going, atEnd, goingAt, going, statements, settle, advance, run}
-use Rattle.scene.specs.Settings.{Settings}
+use Rattle.scene.specs.declared.Settings.{Settings}
 
 other-byte : (b : ℕ) → isOther b ≡ true → isBlank b ≡ false
 unfolding isOther

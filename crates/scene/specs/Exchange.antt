@@ -7,7 +7,7 @@ use Rattle.laws.specs.Bytes.{Bytes}
 use Rattle.scene.specs.Block.{Block, Independent, inBlock, shift}
 use Rattle.scene.specs.Reading.{Entry, accepted, read}
 use Rattle.scene.specs.Record.{records, nth, realTable}
-use Rattle.scene.specs.Settings.{Settings}
+use Rattle.scene.specs.declared.Settings.{Settings}
 use Rattle.scene.specs.Told.{tells, renumbered}
 use Rattle.scene.specs.Statement.{Statement}
 

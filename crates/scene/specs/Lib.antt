@@ -1,4 +1,3 @@
-pub mod Settings
 pub mod Types
 pub mod HouseRules
 pub mod Statement

@@ -8,7 +8,7 @@ use Rattle.lexer.specs.Word.{wordFault}
 use Rattle.numeral.specs.Count.{countOf}
 use Rattle.numeral.specs.Numeral.{Answer, value, refusal, numeralOf}
 use Rattle.scene.specs.HouseRules.{breach}
-use Rattle.scene.specs.Settings.{Settings}
+use Rattle.scene.specs.declared.Settings.{Settings}
 use Rattle.scene.specs.Types.{typeNumber, stringsAllowed, realsAllowed}
 use Rattle.scene.specs.Statement.{Literal, literal, numbers, Body, primitive, alias, Statement, void}
 

@@ -11,7 +11,7 @@ use Rattle.lexer.specs.Class.{isBlank}
 use Rattle.numeral.specs.Count.{countOf}
 use Rattle.scene.specs.Links.{definition, realsUsed}
 use Rattle.scene.specs.Phase.{Part, atType, atName, atStringCount, atString, atIntegerCount, atRealCount, atReal, atAliasName, atTarget, Phase, idle, busy, Outcome, refuse, into, done, word}
-use Rattle.scene.specs.Settings.{Settings}
+use Rattle.scene.specs.declared.Settings.{Settings}
 use Rattle.scene.specs.Types.{isSurface}
 use Rattle.scene.specs.Statement.{Body, primitive, alias, Statement, void}
 

@@ -5,10 +5,11 @@ use Prim.Native.Nat.{ℕ, suc, _+_, _-_, _*_, _/_, min}
 use lib.Dec.{eqb}
 use lib.Ieee.{Float}
 use lib.ListN.{length, getD, replicate}
+use Rattle.laws.specs.Bytes.{Bytes, part}
 use Rattle.scene.specs.HouseRules.{zeroReal}
 use Rattle.scene.specs.Links.{gives, firstLater, modifierLink, targetLink, source, ownBody, typeIn, stringsIn, realsIn, realsUsed}
 use Rattle.scene.specs.Reading.{Entry, statements, Reading, refused, accepted}
-use Rattle.scene.specs.Settings.{Settings}
+use Rattle.scene.specs.declared.Settings.{Settings}
 use Rattle.scene.specs.Statement.{Statement}
 
 -- "Record: ten 32-bit numbers. Type; modifier link; alias target (0 if none); name's place; name's length; place of the first
@@ -119,12 +120,16 @@ recordIn table n =
       next = field 9;
     }
 
+-- its name: what the text has of the part that the record names
+unfoldable pub nameIn : Bytes → List ℕ → (n : ℕ) → Bytes
+nameIn text table n = part text (recordIn table n .name) (recordIn table n .nameLength)
+
 -- ---- the lent tables
 
 -- "Record room is the lesser of 1,024 and the lent length over 10, rounded down; real room the lesser of 4,096 and the lent
 -- length."
-abbrev pub rooms : (lentRecords lentReals : ℕ) → Settings
-rooms n m = record { records = min 1024 (n / width); reals = min 4096 m }
+abbrev pub settingsFor : (lentRecords lentReals : ℕ) → Settings
+settingsFor n m = record { records = min 1024 (n / width); reals = min 4096 m }
 
 unfoldable pub flat : List Record → List ℕ
 flat [] = []

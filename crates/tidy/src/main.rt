@@ -1,4 +1,63 @@
-// Writes out the scene text on standard input, tidy.
+// Writes scene texts out, tidy: the files that the arguments name, or standard input where there are none.
+use input::Loaded;
+use reader::Answer;
+use writer::Answer as Tidied;
+
+// A refusal is said on standard error too, as whatever reads standard output expects a scene there.
+fn refuse(number: usize, reason: u32, place: usize) -> bool {
+    input::say_refusal(number, reason, place);
+    output::print_refusal(reason, place)
+}
+
+fn print_tidy(number: usize, text: &[u8], records: &[u32], reals: &[f64]) -> bool {
+    let mut out = [0u8; input::MOST_BYTES];
+    match writer::write(text, records, reals, &mut out) {
+        Tidied::Written(n) => output::print(lexer::part(&out, 0, n)),
+        Tidied::Refused(reason, place) => refuse(number, reason, place),
+    }
+}
+
+// The tidy text of a text, or its refusal.
+fn tidy(number: usize, text: &[u8]) -> bool {
+    let mut records = [0u32; table::MOST_NUMBERS];
+    let mut reals = [0.0f64; table::MOST_REALS];
+    match reader::read(text, &mut records, &mut reals) {
+        Answer::Accepted(_, _) => print_tidy(number, text, &records, &reals),
+        Answer::Refused(reason, place) => refuse(number, reason, place),
+    }
+}
+
+// What cannot be read is said on standard error too, as a refusal is.
+fn pass_over(number: usize) -> bool {
+    input::say_unreadable(number);
+    input::print_unreadable(number)
+}
+
+// Answers whether to go on with the next text: not after a failed write.
+fn tidy_text(number: usize) -> bool {
+    let mut text = [0u8; input::MOST_BYTES];
+    match input::load(number, &mut text) {
+        Loaded::Text(n) => input::print_heading(number) && tidy(number, lexer::part(&text, 0, n)),
+        Loaded::TooLong => input::print_heading(number) && refuse(number, 1, 0),
+        Loaded::Unreadable => pass_over(number),
+    }
+}
+
+fn tidy_all() {
+    let count = input::count();
+    let mut number = 0;
+    while number < count {
+        number += 1;
+        if !tidy_text(number) {
+            return;
+        }
+    }
+}
+
 fn main() {
-    print::tidy_input();
+    if input::has_option() {
+        output::print(b"usage: tidy [FILE..]\n");
+        return;
+    }
+    tidy_all();
 }

@@ -1,13 +1,15 @@
 // Each word of standard input with its place in bytes, a line each. It knows blanks only: a comment's words are words too.
-use libc::STDIN_FILENO;
+use input::Loaded;
 use libc::STDOUT_FILENO;
 
-fn print_word(place: usize, word: &[u8]) {
-    io::write_all(STDOUT_FILENO, b"place=");
-    io::print_decimal(STDOUT_FILENO, place as u64);
-    io::write_all(STDOUT_FILENO, b" word=");
-    io::write_all(STDOUT_FILENO, word);
-    io::write_all(STDOUT_FILENO, b"\n");
+fn print_word(place: usize, word: &[u8]) -> bool {
+    output::noticed(
+        io::write_all(STDOUT_FILENO, b"place=")
+            && io::print_decimal(STDOUT_FILENO, place as u64)
+            && io::write_all(STDOUT_FILENO, b" word=")
+            && io::write_all(STDOUT_FILENO, word)
+            && io::write_all(STDOUT_FILENO, b"\n"),
+    )
 }
 
 fn print_words(text: &[u8]) {
@@ -17,19 +19,22 @@ fn print_words(text: &[u8]) {
         if word.len == 0 {
             return;
         }
-        print_word(word.place, lexer::part(text, word.place, word.len));
+        if !print_word(word.place, lexer::part(text, word.place, word.len)) {
+            return;
+        }
         at = word.place + word.len;
     }
 }
 
-// One byte past the buffer tells a text that is too long from one that just fits.
 fn main() {
-    let mut text = io::large_buffer();
-    let n = io::read_full(STDIN_FILENO, &mut text);
-    let mut more = [0u8; 1];
-    if 0 < io::read_full(STDIN_FILENO, &mut more) {
-        io::write_all(STDOUT_FILENO, b"refused=1 place=0\n");
-        return;
+    let mut text = [0u8; input::MOST_BYTES];
+    match input::load_standard(&mut text) {
+        Loaded::Text(n) => print_words(lexer::part(&text, 0, n)),
+        Loaded::TooLong => {
+            output::print_refusal(1, 0);
+        }
+        Loaded::Unreadable => {
+            output::print(b"unreadable\n");
+        }
     }
-    print_words(&text[..n]);
 }

@@ -9,7 +9,7 @@ use Rattle.bits.specs.Bits.{sameReals}
 use Rattle.laws.proofs.BytesLaws.{same-refl}
 use Rattle.laws.specs.Bytes.{Bytes, same}
 use Rattle.scene.specs.Reading.{Entry, Reading, accepted, read, statements}
-use Rattle.scene.specs.Record.{recordImage, realImage, rooms}
+use Rattle.scene.specs.Record.{recordImage, realImage, settingsFor}
 use Rattle.writer.proofs.ReadBackLaws.{read-back}
 use Rattle.writer.proofs.TableLaws.{image-length, doubles-length}
 use Rattle.writer.specs.Answer.{refused, tablesMatch, fitted, outcomeOf}
@@ -21,17 +21,17 @@ own-match : (n m : ℕ) (x : Reading) → length (recordImage n x) ≡ n → len
 unfolding tablesMatch
 own-match n m x e f = (λ i. same (recordImage n x) (recordImage (e i) x) && sameReals (realImage m x) (realImage (f i) x)) ∙ rw (same-refl (recordImage n x), reals-same (realImage m x))
 
-own-written : (text : Bytes) (n m room : ℕ) (es : List Entry) → read (rooms n m) text ≡ accepted es → writtenFrom text n m room ≡ fitted room (tidy (statements es))
+own-written : (text : Bytes) (n m room : ℕ) (es : List Entry) → read (settingsFor n m) text ≡ accepted es → writtenFrom text n m room ≡ fitted room (tidy (statements es))
 own-written text n m room es e =
-    let x = read (rooms n m) text in
+    let x = read (settingsFor n m) text in
     let a = image-length n m text in
     let b = doubles-length n m text in
-    ap (outcomeOf (recordImage n x) (realImage m x) room) ((λ i. read (rooms (a i) (b i)) text) ∙ e)
+    ap (outcomeOf (recordImage n x) (realImage m x) room) ((λ i. read (settingsFor (a i) (b i)) text) ∙ e)
     ∙ (λ i. cond (tablesMatch (recordImage n (e i)) (realImage m (e i)) (accepted es)) (fitted room (tidy (statements es))) (refused 22 0))
     ∙ ap (λ (t : Bool). cond t (fitted room (tidy (statements es))) (refused 22 0)) (own-match n m (accepted es) (ap (λ (y : Reading). length (recordImage n y)) (sym e) ∙ a) (ap (λ (y : Reading). length (realImage m y)) (sym e) ∙ b))
 
 pub write-again : WriteAgainLaw
 write-again text n m room es e fits =
-    let b = read-back (rooms n m) text es e fits in
+    let b = read-back (settingsFor n m) text es e fits in
     let w = own-written text n m room es e in
     record { written = w; again = own-written (tidy (statements es)) n m room (b .entries) (b .reads) ∙ ap (λ l. fitted room (tidy l)) (b .meant) ∙ sym w }

@@ -19,8 +19,8 @@ use Rattle.laws.specs.Bytes.{Bytes}
 use Rattle.reader.specs.Answer.{readInto}
 use Rattle.scene.specs.Reading as reading
 use Rattle.scene.specs.Reading.{Reading, accepted, read, statements}
-use Rattle.scene.specs.Record.{filled, recordImage, realImage, rooms}
-use Rattle.scene.specs.Settings.{Settings}
+use Rattle.scene.specs.Record.{filled, recordImage, realImage, settingsFor}
+use Rattle.scene.specs.declared.Settings.{Settings}
 use Rattle.writer.proofs.PutsLaws.{puts-length}
 use Rattle.writer.proofs.RowLaws.{written}
 use Rattle.writer.specs.Answer as answer
@@ -111,7 +111,7 @@ module _ (text : Bytes) (table : List ℕ) (doubles : List Float) (out : Bytes) 
 
   module _ (n : ℕ) (e : fresh.Same n ≡ freshOf table doubles (readInto text table doubles)) {r : Cursor} {mid : Bytes} (p : Puts out front (recordTexts text table n) r mid) where
     fitted-as : tidied text table doubles (length out) ≡ fitted (length out) (recordTexts text table n)
-    fitted-as = same-as table doubles (length out) (rooms (length table) (length doubles)) text (readInto text table doubles) n refl e
+    fitted-as = same-as table doubles (length out) (settingsFor (length table) (length doubles)) text (readInto text table doubles) n refl e
 
     pub writes-too-long : r .full ≡ true → {out′ : Bytes} → out′ ≡ filled 0 (length mid) [] → Writes text table doubles out (call.Refused 23 0) out′
     writes-too-long f z =

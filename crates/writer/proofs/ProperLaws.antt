@@ -21,7 +21,7 @@ use Rattle.scene.proofs.SyntaxLaws.{Step, halt, pass, after, step, onTop, chain
 use Rattle.scene.specs.HouseRules.{breach}
 use Rattle.scene.specs.Phase.{Part, atType, atName, atStringCount, atString, atIntegerCount, atRealCount, atReal, atAliasName, atTarget, Phase, idle, busy, Turn, fault, onto, ends, typed, strings, stringCount, integerCount, reals, realCount, real, turn, outcome, taken, unlessFault, word}
 use Rattle.scene.specs.Reading.{Mode, gap, comment, within, Move, keep, first, command, begins, move}
-use Rattle.scene.specs.Settings.{Settings}
+use Rattle.scene.specs.declared.Settings.{Settings}
 use Rattle.scene.specs.Statement.{Literal, literal, numbers, Body, primitive, alias, Statement, void}
 use Rattle.scene.specs.Types.{Kind, any, types, numberFrom, typeNumber, kindOf, typeName, stringsAllowed, realsAllowed}
 use Rattle.writer.proofs.CountLaws.{count-below}

@@ -13,7 +13,7 @@ use Rattle.scene.specs.Links.{modifierLink, targetLink, source, ownBody, typeIn
 use Rattle.scene.specs.Phase.{idle}
 use Rattle.scene.specs.Reading.{gap, Entry, statements, accepted, read, newline}
 use Rattle.scene.specs.Record.{Record, firstReal, nextOf, recordOf, recordsFrom, records, reals}
-use Rattle.scene.specs.Settings.{Settings}
+use Rattle.scene.specs.declared.Settings.{Settings}
 use Rattle.scene.specs.Statement.{Statement}
 use Rattle.writer.proofs.ProperLaws.{AllProper, StepProper, parse-proper}
 use Rattle.writer.proofs.StatementLaws.{statement-read}

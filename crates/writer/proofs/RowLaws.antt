@@ -22,7 +22,7 @@ use Rattle.scene.proofs.TellsLaws.{nth-at, numbers-length, read-tail, name-at, 
 use Rattle.scene.specs.Links.{hits, found, head, definition, latest, targetLink, ownBody, typeIn, stringsIn, realsIn}
 use Rattle.scene.specs.Reading.{Entry, statements, newline, modifierTest, accepted, read}
 use Rattle.scene.specs.Record.{Record, recordOf, records, recordIn, recordImage}
-use Rattle.scene.specs.Settings.{Settings}
+use Rattle.scene.specs.declared.Settings.{Settings}
 use Rattle.scene.specs.Statement.{Literal, numbers, numeralWords, Body, primitive, alias, Statement, void}
 use Rattle.scene.specs.Told.{wordsFrom}
 use Rattle.scene.specs.Types.{typeName}

@@ -12,7 +12,7 @@ use Rattle.lexer.specs.Class.{isGood}
 use Rattle.scene.proofs.SyntaxLaws.{Step, pass, parse}
 use Rattle.scene.specs.Phase.{atType, atName, atStringCount, atString, atIntegerCount, atRealCount, atReal, atAliasName, atTarget, idle, busy}
 use Rattle.scene.specs.Reading.{gap, newline}
-use Rattle.scene.specs.Settings.{Settings}
+use Rattle.scene.specs.declared.Settings.{Settings}
 use Rattle.scene.proofs.SpellingLaws.{numerals-length}
 use Rattle.scene.specs.Statement.{Literal, numeralWords, Body, primitive, alias, Statement}
 use Rattle.scene.specs.Types.{typeName}

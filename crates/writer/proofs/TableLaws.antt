@@ -17,7 +17,7 @@ use Rattle.scene.proofs.RoomLaws.{fit-forth}
 use Rattle.scene.proofs.TellsLaws.{records-length, reals-length, statements-length}
 use Rattle.scene.specs.HouseRules.{zeroReal}
 use Rattle.scene.specs.Reading.{Reading, accepted, read, refused, statements}
-use Rattle.scene.specs.Record.{entries, filled, flat, realImage, realTable, reals, recordImage, records, recordsFrom, rooms, width}
+use Rattle.scene.specs.Record.{entries, filled, flat, realImage, realTable, reals, recordImage, records, recordsFrom, settingsFor, width}
 use Rattle.writer.specs.Answer.{tablesMatch}
 use Rattle.writer.specs.Fresh.{freshOf}
 use Rattle.writer.specs.declared.tables.Fresh.the-variants.{Same, Refused}
@@ -56,28 +56,28 @@ module _ {A : Type 0} (z : A) where
 -- ---- a reading at cut sizes
 
 -- the entries that a reading uses fit its tables
-used-numbers : (n k : ℕ) (text : Bytes) (x : Reading) → read (rooms n k) text ≡ x → length (flat (records (entries x))) ≤ n
+used-numbers : (n k : ℕ) (text : Bytes) (x : Reading) → read (settingsFor n k) text ≡ x → length (flat (records (entries x))) ≤ n
 unfolding flat records recordsFrom
 used-numbers n k text (refused m p) e = omega arith
 used-numbers n k text (accepted es) e =
-    let f = fit-forth (rooms n k) (statements es) (accept-forth (rooms n k) text es e .2) in
+    let f = fit-forth (settingsFor n k) (statements es) (accept-forth (settingsFor n k) text es e .2) in
     omega (arith, f .1, flat-length (records es), records-length [] es, statements-length es)
 
-used-reals : (n k : ℕ) (text : Bytes) (x : Reading) → read (rooms n k) text ≡ x → length (realTable (entries x)) ≤ k
+used-reals : (n k : ℕ) (text : Bytes) (x : Reading) → read (settingsFor n k) text ≡ x → length (realTable (entries x)) ≤ k
 unfolding reals statements
 used-reals n k text (refused m p) e = omega arith
 used-reals n k text (accepted es) e =
-    let f = fit-forth (rooms n k) (statements es) (accept-forth (rooms n k) text es e .2) in
+    let f = fit-forth (settingsFor n k) (statements es) (accept-forth (settingsFor n k) text es e .2) in
     omega (arith, f .2, reals-length (statements es))
 
 -- the tables that a reading leaves are as long as those that were lent
-pub image-length : (n k : ℕ) (text : Bytes) → length (recordImage n (read (rooms n k) text)) ≡ n
+pub image-length : (n k : ℕ) (text : Bytes) → length (recordImage n (read (settingsFor n k) text)) ≡ n
 unfolding recordImage
-image-length n k text = sym (filled-length 0 n (flat (records (entries (read (rooms n k) text)))) (used-numbers n k text _ refl))
+image-length n k text = sym (filled-length 0 n (flat (records (entries (read (settingsFor n k) text)))) (used-numbers n k text _ refl))
 
-pub doubles-length : (n k : ℕ) (text : Bytes) → length (realImage k (read (rooms n k) text)) ≡ k
+pub doubles-length : (n k : ℕ) (text : Bytes) → length (realImage k (read (settingsFor n k) text)) ≡ k
 unfolding realImage
-doubles-length n k text = sym (filled-length zeroReal k (realTable (entries (read (rooms n k) text))) (used-reals n k text _ refl))
+doubles-length n k text = sym (filled-length zeroReal k (realTable (entries (read (settingsFor n k) text))) (used-reals n k text _ refl))
 
 module _ (table : List ℕ) (doubles : List Float) where
   fresh-refused : (x : Reading) (n p : ℕ) → reader.Refused n p ≡ answered x → Refused n p ≡ freshOf table doubles x

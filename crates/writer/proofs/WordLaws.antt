@@ -15,7 +15,7 @@ use Rattle.lexer.specs.Class.{isBlank, isGood}
 use Rattle.scene.proofs.SyntaxLaws.{pass, after, onTop-nil, chain, parse}
 use Rattle.scene.specs.Phase.{Part, atType, Phase, idle, busy, onto, ends, turn, taken, word}
 use Rattle.scene.specs.Reading.{gap, comment, within, keep, first, command, begins, newline}
-use Rattle.scene.specs.Settings.{Settings}
+use Rattle.scene.specs.declared.Settings.{Settings}
 use Rattle.scene.specs.Statement.{Body, Statement}
 use Rattle.writer.specs.Tidy.{spaced, line}
 

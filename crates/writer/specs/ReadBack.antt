@@ -5,8 +5,8 @@ use Prim.Native.Nat.{ℕ, _≤_}
 use lib.ListN.{length}
 use Rattle.laws.specs.Bytes.{Bytes}
 use Rattle.scene.specs.Reading.{Entry, statements, accepted, read}
-use Rattle.scene.specs.Record.{Record, records, realTable, recordImage, realImage, rooms}
-use Rattle.scene.specs.Settings.{Settings}
+use Rattle.scene.specs.Record.{Record, records, realTable, recordImage, realImage, settingsFor}
+use Rattle.scene.specs.declared.Settings.{Settings}
 use Rattle.writer.specs.Answer.{Outcome, fitted, tidied}
 use Rattle.writer.specs.Tidy.{tidy}
 
@@ -40,7 +40,7 @@ ReadBackLaw = (r : Settings) (text : Bytes) (es : List Entry) → read r text �
 -- a call on a text and on the tables that reading it leaves in so many numbers and reals
 abbrev pub writtenFrom : Bytes → (numbers reals room : ℕ) → Outcome
 writtenFrom text n m room =
-    let x = read (rooms n m) text in
+    let x = read (settingsFor n m) text in
     tidied text (recordImage n x) (realImage m x) room
 
 -- "From a text and its accepted tables we want tidy text"; "writing it again gives the same bytes"
@@ -49,4 +49,4 @@ pub record WritesAgain (text : Bytes) (n m room : ℕ) (es : List Entry) : Type 
   pub again : writtenFrom (tidy (statements es)) n m room ≡ writtenFrom text n m room
 
 abbrev pub WriteAgainLaw : Type 0
-WriteAgainLaw = (text : Bytes) (n m room : ℕ) (es : List Entry) → read (rooms n m) text ≡ accepted es → length (tidy (statements es)) ≤ 65536 → WritesAgain text n m room es
+WriteAgainLaw = (text : Bytes) (n m room : ℕ) (es : List Entry) → read (settingsFor n m) text ≡ accepted es → length (tidy (statements es)) ≤ 65536 → WritesAgain text n m room es

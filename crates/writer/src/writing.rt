@@ -85,8 +85,8 @@ fn name_of<'a>(text: &'a [u8], records: &[u32], n: usize) -> &'a [u8]
 {
     lexer::part(
         text,
-        finish::field(records, n, finish::NAME) as usize,
-        finish::field(records, n, finish::NAME_LENGTH) as usize,
+        table::field(records, n, table::NAME) as usize,
+        table::field(records, n, table::NAME_LENGTH) as usize,
     )
 }
 
@@ -111,7 +111,7 @@ fn put_head(
 ) -> Cursor
     ensures { λ r. ⌜ Puts (now (out .entry)) c (linkWord (now (text .entry)) (now (records .entry)) (recordIn (now (records .entry)) n .modifier) ++ spaced (now (kind .entry) ∷ nameOf (now (text .entry)) (recordIn (now (records .entry)) n) ∷ [])) r (now (out .exit)) ⌝ }
 {
-    let link = finish::field(records, n, finish::MODIFIER) as usize;
+    let link = table::field(records, n, table::MODIFIER) as usize;
     let behind_link = put_link(out, c, text, records, link);
     let behind_kind = put_spaced(out, behind_link, kind);
     put_spaced(out, behind_kind, name_of(text, records, n))
@@ -121,7 +121,7 @@ fn put_head(
 fn put_alias(out: &mut [u8], c: Cursor, text: &[u8], records: &[u32], n: usize) -> Cursor
     ensures { λ r. ⌜ Puts (now (out .entry)) c (aliasText (now (text .entry)) (now (records .entry)) (recordIn (now (records .entry)) n)) r (now (out .exit)) ⌝ }
 {
-    let target = finish::field(records, n, finish::TARGET) as usize;
+    let target = table::field(records, n, table::TARGET) as usize;
     let behind_head = put_head(out, c, text, records, n, b"alias");
     let behind_target = put_spaced(out, behind_head, name_of(text, records, target));
     put(out, behind_target, b"\n")
@@ -131,7 +131,7 @@ fn put_alias(out: &mut [u8], c: Cursor, text: &[u8], records: &[u32], n: usize) 
 fn put_first_line(out: &mut [u8], c: Cursor, text: &[u8], records: &[u32], n: usize) -> Cursor
     ensures { λ r. ⌜ Puts (now (out .entry)) c (line (linkWord (now (text .entry)) (now (records .entry)) (recordIn (now (records .entry)) n .modifier)) (typeName (recordIn (now (records .entry)) n .type) ∷ nameOf (now (text .entry)) (recordIn (now (records .entry)) n) ∷ [])) r (now (out .exit)) ⌝ }
 {
-    let name = kinds::type_name(finish::field(records, n, finish::KIND));
+    let name = kinds::type_name(table::field(records, n, table::KIND));
     let bytes = name.0;
     let behind_head = put_head(out, c, text, records, n, lexer::part(&bytes, 0, name.1));
     put(out, behind_head, b"\n")
@@ -141,9 +141,9 @@ fn put_first_line(out: &mut [u8], c: Cursor, text: &[u8], records: &[u32], n: us
 fn put_primitive(out: &mut [u8], c: Cursor, text: &[u8], records: &[u32], n: usize) -> Cursor
     ensures { λ r. ⌜ Puts (now (out .entry)) c (primitiveText (now (text .entry)) (now (records .entry)) (recordIn (now (records .entry)) n)) r (now (out .exit)) ⌝ }
 {
-    let name = finish::field(records, n, finish::NAME) as usize;
-    let strings = finish::field(records, n, finish::STRINGS) as usize;
-    let reals = finish::field(records, n, finish::REALS) as usize;
+    let name = table::field(records, n, table::NAME) as usize;
+    let strings = table::field(records, n, table::STRINGS) as usize;
+    let reals = table::field(records, n, table::REALS) as usize;
     let first = skip_words(text, name, 2);
     let numeral = skip_words(text, name, 4 + strings);
     let behind_first = put_first_line(out, c, text, records, n);
@@ -155,7 +155,7 @@ fn put_primitive(out: &mut [u8], c: Cursor, text: &[u8], records: &[u32], n: usi
 fn put_record(out: &mut [u8], c: Cursor, text: &[u8], records: &[u32], n: usize) -> Cursor
     ensures { λ r. ⌜ Puts (now (out .entry)) c (recordText (now (text .entry)) (now (records .entry)) (recordIn (now (records .entry)) n)) r (now (out .exit)) ⌝ }
 {
-    if finish::field(records, n, finish::TARGET) == 0 {
+    if table::field(records, n, table::TARGET) == 0 {
         return put_primitive(out, c, text, records, n);
     }
     put_alias(out, c, text, records, n)

@@ -5,17 +5,18 @@ use native.Mathlib.Omega.{arith}
 use borrow.Author.Needs.{needs}
 use Rattle.finish.proofs.WalkLaws.{walk-start}
 use Rattle.finish.specs.Walk.{walkFrom}
+use Rattle.table.specs.View.{viewOf}
 use Rattle.finish.proofs.walk.Statement.{statement}
 use Rattle.finish.proofs.walk.Tie as tie
 
 abbrev Inv-loop : tie.InvT-loop
-Inv-loop records number allowance at₀ links₀ at links = walkFrom records allowance 0 number ≡ walkFrom records (allowance - links) links at
+Inv-loop records number allowance at₀ links₀ at links = walkFrom (viewOf records) allowance 0 number ≡ walkFrom (viewOf records) (allowance - links) links at
 
 abbrev μ-loop : tie.MeasureT-loop
 μ-loop records number allowance at₀ links₀ at links = at
 
 loop-holds : tie.Need-loop-holds Inv-loop μ-loop
-loop-holds c = walk-start (c .before .args .records .now) (c .before .args .allowance) (c .before .args .number)
+loop-holds c = walk-start (viewOf (c .before .args .records .now)) (c .before .args .allowance) (c .before .args .number)
 
 follow-requires : tie.Need-follow-requires Inv-loop μ-loop
 follow-requires c κs = search needs

@@ -27,14 +27,17 @@ returns c = search needs
 print-numeral-requires : tie.Need-print-numeral-requires Inv-loop μ-loop
 print-numeral-requires c κs = search needs
 
+returns-2 : tie.Need-returns-2 Inv-loop μ-loop
+returns-2 c = search needs
+
 add-at : tie.Need-add-at Inv-loop μ-loop
-add-at c = omega (arith, place-least (c .before .before .before .before .before .before .before .args .text .now) (c .before .before .before .before .before .loop .at), end-most (c .before .before .before .before .before .before .before .args .text .now) (c .before .before .before .before .before .loop .at), ap (λ (w : Word). w .place) (c .before .before .before .before .next-word .ensures), ap (λ (w : Word). w .len) (c .before .before .before .before .next-word .ensures))
+add-at c = omega (arith, place-least (c .before .before .before .before .before .before .before .before .args .text .now) (c .before .before .before .before .before .before .loop .at), end-most (c .before .before .before .before .before .before .before .before .args .text .now) (c .before .before .before .before .before .before .loop .at), ap (λ (w : Word). w .place) (c .before .before .before .before .before .next-word .ensures), ap (λ (w : Word). w .len) (c .before .before .before .before .before .next-word .ensures))
 
 loop-less : tie.Need-loop-less Inv-loop μ-loop
-loop-less c = omega (arith, place-least (c .before .before .before .before .before .before .before .args .text .now) (c .before .before .before .before .before .loop .at), end-most (c .before .before .before .before .before .before .before .args .text .now) (c .before .before .before .before .before .loop .at), ap (λ (w : Word). w .place) (c .before .before .before .before .next-word .ensures), ap (λ (w : Word). w .len) (c .before .before .before .before .next-word .ensures))
+loop-less c = omega (arith, place-least (c .before .before .before .before .before .before .before .before .args .text .now) (c .before .before .before .before .before .before .loop .at), end-most (c .before .before .before .before .before .before .before .before .args .text .now) (c .before .before .before .before .before .before .loop .at), ap (λ (w : Word). w .place) (c .before .before .before .before .before .next-word .ensures), ap (λ (w : Word). w .len) (c .before .before .before .before .before .next-word .ensures))
 
 loop-again : tie.Need-loop-again Inv-loop μ-loop
-loop-again c = omega (arith, place-least (c .before .before .before .before .before .before .before .args .text .now) (c .before .before .before .before .before .loop .at), end-most (c .before .before .before .before .before .before .before .args .text .now) (c .before .before .before .before .before .loop .at), ap (λ (w : Word). w .place) (c .before .before .before .before .next-word .ensures), ap (λ (w : Word). w .len) (c .before .before .before .before .next-word .ensures))
+loop-again c = omega (arith, place-least (c .before .before .before .before .before .before .before .before .args .text .now) (c .before .before .before .before .before .before .loop .at), end-most (c .before .before .before .before .before .before .before .before .args .text .now) (c .before .before .before .before .before .before .loop .at), ap (λ (w : Word). w .place) (c .before .before .before .before .before .next-word .ensures), ap (λ (w : Word). w .len) (c .before .before .before .before .before .next-word .ensures))
 
 pub print-all-spec : {M : Type 1} → statement M
 print-all-spec =
@@ -46,6 +49,7 @@ print-all-spec =
     next-word-requires
     returns
     print-numeral-requires
+    returns-2
     add-at
     loop-less
     loop-again)

@@ -8,10 +8,10 @@ is-idle-requires : tie.Need-is-idle-requires
 is-idle-requires c κs = search needs
 
 returns : tie.Need-returns
-returns c = rw (sym (c .before .is-idle .ensures) ∙ c .if1 .taken)
+returns c = rw (sym ((c .before .is-idle) .ensures) ∙ (c .if1) .taken)
 
 returns-2 : tie.Need-returns-2
-returns-2 c = rw (sym (c .before .is-idle .ensures) ∙ c .if1 .left)
+returns-2 c = rw (sym ((c .before .is-idle) .ensures) ∙ (c .if1) .left)
 
 pub at-end-spec : {M : Type 1} → statement M
 at-end-spec = tie.close (tie.spec is-idle-requires returns returns-2)

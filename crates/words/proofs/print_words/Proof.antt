@@ -39,19 +39,22 @@ part-requires c κs = search needs
 print-word-requires : tie.Need-print-word-requires Inv-loop μ-loop
 print-word-requires c κs = search needs
 
+returns-2 : tie.Need-returns-2 Inv-loop μ-loop
+returns-2 c = search needs
+
 add-at : tie.Need-add-at Inv-loop μ-loop
 add-at c =
-    let w = within _ _ _ (c .before .before .before .before .before .next-from .ensures) in
+    let w = within _ _ _ (c .before .before .before .before .before .before .next-from .ensures) in
     omega (arith, w .0, w .1)
 
 loop-less : tie.Need-loop-less Inv-loop μ-loop
 loop-less c =
-    let w = within _ _ _ (c .before .before .before .before .before .next-from .ensures) in
+    let w = within _ _ _ (c .before .before .before .before .before .before .next-from .ensures) in
     omega (arith, w .0, w .1)
 
 loop-again : tie.Need-loop-again Inv-loop μ-loop
 loop-again c =
-    let w = within _ _ _ (c .before .before .before .before .before .next-from .ensures) in
+    let w = within _ _ _ (c .before .before .before .before .before .before .next-from .ensures) in
     omega (arith, w .0, w .1)
 
 pub print-words-spec : {M : Type 1} → statement M
@@ -65,6 +68,7 @@ print-words-spec =
     returns
     part-requires
     print-word-requires
+    returns-2
     add-at
     loop-less
     loop-again)

@@ -3,7 +3,7 @@ use mathlib.Core.Path.{_≡_, refl, ap, _∙_}
 use Prim.Native.Nat.{_<_, _-_, _≤_}
 use native.Mathlib.Omega.{arith}
 use lib.ListN.{length, set, length-set}
-use Rattle.reader.proofs.TableLaws.{cleared, cleared-none, cleared-more, cleared-all}
+use Rattle.laws.proofs.ClearLaws.{cleared, cleared-none, cleared-more, cleared-all}
 use borrow.Author.Needs.{needs}
 use Rattle.writer.proofs.clear.Statement.{statement}
 use Rattle.writer.proofs.clear.Tie as tie

@@ -1,0 +1,70 @@
+-- `compare_cases::main` is safe, and ends.
+use Prim.Native.Nat.{_-_, _≤_}
+use borrow.Author.Needs.{needs}
+use Rattle.compare_cases.proofs.main.Statement.{statement}
+use Rattle.compare_cases.proofs.main.Tie as tie
+
+abbrev Inv-loop : tie.InvT-loop
+Inv-loop pairs pair₀ pair = pair ≤ pairs
+
+abbrev μ-loop : tie.MeasureT-loop
+μ-loop pairs pair₀ pair = pairs - pair
+
+count-requires : tie.Need-count-requires Inv-loop μ-loop
+count-requires c κs = search needs
+
+loop-holds : tie.Need-loop-holds Inv-loop μ-loop
+loop-holds c = search needs
+
+mul-left : tie.Need-mul-left Inv-loop μ-loop
+mul-left c = search needs
+
+add-left : tie.Need-add-left Inv-loop μ-loop
+add-left c = search needs
+
+add-print-names : tie.Need-add-print-names Inv-loop μ-loop
+add-print-names c = search needs
+
+print-names-requires : tie.Need-print-names-requires Inv-loop μ-loop
+print-names-requires c κs = search needs
+
+returns : tie.Need-returns Inv-loop μ-loop
+returns c = search needs
+
+add-compare-arguments : tie.Need-add-compare-arguments Inv-loop μ-loop
+add-compare-arguments c = search needs
+
+compare-arguments-requires : tie.Need-compare-arguments-requires Inv-loop μ-loop
+compare-arguments-requires c κs = search needs
+
+add-pair : tie.Need-add-pair Inv-loop μ-loop
+add-pair c = search needs
+
+loop-less : tie.Need-loop-less Inv-loop μ-loop
+loop-less c = search needs
+
+loop-again : tie.Need-loop-again Inv-loop μ-loop
+loop-again c = search needs
+
+returns-2 : tie.Need-returns-2 Inv-loop μ-loop
+returns-2 c = search needs
+
+pub main-spec : {M : Type 1} → statement M
+main-spec =
+    tie.close
+    (tie.spec
+    Inv-loop
+    μ-loop
+    count-requires
+    loop-holds
+    mul-left
+    add-left
+    add-print-names
+    print-names-requires
+    returns
+    add-compare-arguments
+    compare-arguments-requires
+    add-pair
+    loop-less
+    loop-again
+    returns-2)

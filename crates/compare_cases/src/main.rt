@@ -1,0 +1,28 @@
+// Compares pairs of saves, one pair after the other: the cases that are stored for the program `compare`, each two arguments
+// under a line with their names.
+fn print_name(argument: usize) -> bool {
+    let mut name = io::buffer();
+    let n = os::arg(argument, &mut name);
+    output::print(&name[..n])
+}
+
+fn print_names(left: usize, right: usize) -> bool {
+    output::print(b"scenes=")
+        && print_name(left)
+        && output::print(b" ")
+        && print_name(right)
+        && output::print(b"\n")
+}
+
+fn main() {
+    let pairs = input::count() / 2;
+    let mut pair = 0;
+    while pair < pairs {
+        let left = 2 * pair + 1;
+        if !print_names(left, left + 1) {
+            return;
+        }
+        saves::compare_arguments(left, left + 1);
+        pair += 1;
+    }
+}

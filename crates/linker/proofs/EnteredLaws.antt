@@ -1,0 +1,82 @@
+-- Entering a statement's record makes the table that of one statement more.
+use mathlib.Core.Bool.{Bool, false, cond}
+use mathlib.Core.List.{List, [], _∷_, _++_}
+use mathlib.Core.Path.{_≡_, refl, ap, sym, _∙_}
+use Prim.Native.Nat.{ℕ, zero, suc, _+_, _-_, _*_, _/_, _≤_, min}
+use native.Mathlib.Nat.{sub-zero, zero-sub, suc-sub-suc}
+use native.Mathlib.Omega.{arith}
+use borrow.Author.Tests.{lt-leb}
+use lib.Dec.{leb}
+use lib.ListN.{length, length-append, length-set, length-replicate, replicate, take, drop}
+use lib.Seq.{sets, sets-eq, set-append-left, take-append-seam, drop-append-add}
+use Rattle.laws.specs.Bytes.{Bytes, part}
+use Rattle.linker.proofs.LookupLaws.{search-latest}
+use Rattle.linker.specs.Entered.{enteredIn, toldIn, recordFrom}
+use Rattle.linker.specs.Lookup.{latestIn}
+use Rattle.statement.specs.declared.Draft.{Draft}
+use Rattle.scene.proofs.FlatLaws.{flat-next, link, flat-snoc, flat-length}
+use Rattle.scene.proofs.GrowLaws.{records-grow}
+use Rattle.scene.proofs.PlaceLaws.{AllRead}
+use Rattle.scene.proofs.SwapLaws.{latest-le}
+use Rattle.scene.proofs.TellsLaws.{name-at, records-length, statements-length}
+use Rattle.scene.specs.Links.{latest, gives}
+use Rattle.scene.specs.Reading.{newline, Entry, statements}
+use Rattle.scene.specs.Record.{width, flat, recordOf, Record, filled, fields, records}
+
+drop-zeros : (k n : ℕ) → drop {A = ℕ} k (replicate n 0) ≡ replicate (n - k) 0
+drop-zeros zero n = rw sub-zero
+drop-zeros (suc k) zero = rw zero-sub
+drop-zeros (suc k) (suc n) = rw suc-sub-suc (drop-zeros k n)
+
+link-length : (R : List Record) (m v : ℕ) → length (link R m v) ≡ length R
+link-length R zero v = refl
+link-length R (suc k) v = simp length-set
+
+told-link : (R : List Record) (z : List ℕ) (m v : ℕ) → m ≤ length R → toldIn (flat R ++ z) m v ≡ flat (link R m v) ++ z
+told-link R z zero v h = refl
+told-link R z (suc k) v h = set-append-left (flat R) z (k * width + 9) v (omega (arith, flat-length R)) ∙ ap {B = List ℕ} (λ (y : List ℕ). y ++ z) (flat-next R k v h)
+
+-- a record put behind the others
+put-record : (R : List Record) (r : Record) (n m : ℕ) → n ≡ length R → n * width + width ≤ m → sets (filled 0 m (flat R)) (n * width) (fields r) ≡ filled 0 m (flat (R ++ r ∷ []))
+put-record R r n m q h =
+    let z : List ℕ = replicate (m - length (flat R)) 0 in
+    let l : n * width ≡ length (flat R) = omega (arith, flat-length R) in
+    let f : n * width + width ≤ length (flat R ++ z) = omega (arith, length-append (flat R) z, length-replicate {A = ℕ} (m - length (flat R)) 0) in
+    let a : take (n * width) (flat R ++ z) ≡ flat R = ap (λ (k : ℕ). take k (flat R ++ z)) l ∙ take-append-seam (flat R) z in
+    let c : m - length (flat R) - width ≡ m - length (flat (R ++ r ∷ [])) = omega (arith, flat-length (R ++ r ∷ []), length-append R (r ∷ []), flat-length R) in
+    let b : drop (n * width + width) (flat R ++ z) ≡ replicate (m - length (flat (R ++ r ∷ []))) 0 =
+    ap (λ (k : ℕ). drop (k + width) (flat R ++ z)) l ∙ drop-append-add (flat R) z width ∙ drop-zeros width (m - length (flat R)) ∙
+    ap (λ (k : ℕ). replicate k 0) c in
+    sets-eq (fields r) (flat R ++ z) (n * width) f ∙ (λ i. (a i ++ fields r) ++ b i) ∙ (λ i. sym (flat-snoc R r) i ++ replicate (m - length (flat (R ++ r ∷ []))) 0)
+
+records-count : (es : List Entry) → length (records es) ≡ length es
+unfolding records
+records-count es = records-length [] es
+
+module _ (text : Bytes) (table : List ℕ) (e : Entry) (es : List Entry) (d : Draft) (w : table ≡ filled 0 (length table) (flat (records es))) (h : AllRead (text ++ newline) (e ∷ es)) (own : recordFrom d ≡ recordOf [] e es) where
+  named : part text (d .name) (d .size) ≡ e .statement .name
+  unfolding recordOf
+  named = (λ i. part text (own i .name) (own i .nameLength)) ∙ name-at text (e .places .name) (e .statement .name) (h .0 .name)
+
+  finds : (n : ℕ) → n ≡ length (statements es) → latestIn text table (part text (d .name) (d .size)) n ≡ latest (e .statement .name) (statements es)
+  finds n q = (λ i. latestIn text (w i) (named i) ((q ∙ statements-length es) i)) ∙ search-latest text es (length table) (h .1) (e .statement .name)
+
+  pub enters : (n : ℕ) → n ≡ length (statements es) → n ≤ 1024 → n * width + width ≤ length table → enteredIn text table n d ≡ filled 0 (length table) (flat (records (e ∷ es)))
+  unfolding enteredIn gives
+  enters n q few f =
+      let rows = length table / width in
+      let in-table : min n rows ≡ n = omega arith in
+      let small : min (n + 1) 4294967295 ≡ n + 1 = omega arith in
+      let room : leb rows n ≡ false = lt-leb rows n (omega arith) in
+      let R : List Record = records es in
+      let m : ℕ = latest (e .statement .name) (statements es) in
+      let k : length R ≡ length es = records-count es in
+      let le : m ≤ length R = omega (arith, k, latest-le (e .statement .name) (statements es), statements-length es) in
+      let L : List Record = link R m (suc (length es)) in
+      let c : n + 1 ≡ suc (length es) = omega (arith, statements-length es) in
+      let j : length (flat L) ≡ length (flat R) = omega (arith, flat-length L, flat-length R, link-length R m (suc (length es))) in
+      (λ i. cond (room i) table (sets (toldIn table (latestIn text table (part text (d .name) (d .size)) (in-table i)) (small i)) (n * width) (fields (recordFrom d)))) ∙
+      (λ i. sets (toldIn (w i) (finds n q i) (c i)) (n * width) (fields (own i))) ∙
+      ap (λ (t : List ℕ). sets t (n * width) (fields (recordOf [] e es))) (told-link R (replicate (length table - length (flat R)) 0) m (suc (length es)) le ∙ ap {B = List ℕ} (λ (x : ℕ). flat L ++ replicate (length table - x) 0) (sym j)) ∙
+      put-record L (recordOf [] e es) n (length table) (omega (arith, link-length R m (suc (length es)), k, statements-length es)) f ∙
+      ap (λ (t : List Record). filled 0 (length table) (flat t)) (sym (records-grow e refl es))

@@ -1,0 +1,5 @@
+pub mod PhaseLaws
+pub mod TableLaws
+pub mod LookupLaws
+pub mod SeenLaws
+pub mod EnteredLaws

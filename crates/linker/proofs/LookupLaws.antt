@@ -1,0 +1,131 @@
+-- The backward search: one turn of it, and that it finds what the definition of a lookup names.
+use mathlib.Core.Bool.{Bool, true, false, _&&_, cond, true≢false}
+use mathlib.Core.List.{List, [], _∷_, _++_, append-assoc}
+use mathlib.Core.Logic.{_≢_}
+use mathlib.Core.Path.{_≡_, refl, ap, sym, _∙_, subst}
+use Prim.Native.Nat.{ℕ, zero, suc, _+_, _-_, _*_, _≤_, _<_}
+use native.Mathlib.Omega.{arith}
+use borrow.Author.Tests.{eq-eqb, eqb-true, le-leb, leb-true}
+use lib.Dec.{eqb, leb}
+use lib.ListN.{length, length-append, length-drop, getD, drop}
+use lib.Seq.{length-take-le, getD-take, getD-drop, ext-getD}
+use Rattle.laws.proofs.BoolLaws.{and-left, and-right, not-both}
+use Rattle.laws.proofs.BytesLaws.{same-eq, same-refl, same-sized}
+use Rattle.laws.specs.Bytes.{part, same, Bytes}
+use Rattle.linker.specs.Lookup.{hasName, latestIn}
+use Rattle.scene.proofs.FlatLaws.{record-in}
+use Rattle.scene.proofs.PlaceLaws.{Says, AllRead}
+use Rattle.scene.proofs.TellsLaws.{read-tail, statements-length, records-at, name-at}
+use Rattle.scene.specs.Links.{hits, latest, gives, found}
+use Rattle.scene.specs.Reading.{statements, Entry, newline}
+use Rattle.scene.specs.Record.{recordOf, Record, flat, filled, nothing, records, width, recordsFrom, nth, fieldIn, nameIn, recordIn}
+
+-- the table, of n numbers, of the entries es that have been read of a text
+module _ (text : Bytes) (es : List Entry) (n : ℕ) (h : AllRead (text ++ newline) es) where
+  abbrev table : List ℕ
+  table = filled 0 n (flat (records es))
+
+  record-is : (l : List Entry) (e : Entry) (d : List Entry) → es ≡ l ++ e ∷ d → recordIn table (suc (length d)) ≡ recordOf l e d
+  unfolding nth records
+  record-is l e d q =
+      let m : suc (length d) - 1 ≡ length d = omega arith in
+      record-in (records es) n (suc (length d)) ∙ (λ i. getD (recordsFrom [] (q i)) (m i) nothing) ∙ records-at [] l e d
+
+  said : (l : List Entry) (e : Entry) (d : List Entry) → es ≡ l ++ e ∷ d → Says (text ++ newline) (e .places .name) (e .statement .name)
+  said l e d q = read-tail (text ++ newline) l (e ∷ d) (subst (AllRead (text ++ newline)) q h) .0 .name
+
+  name-is : (l : List Entry) (e : Entry) (d : List Entry) → es ≡ l ++ e ∷ d → nameIn text table (suc (length d)) ≡ e .statement .name
+  unfolding nameIn recordOf
+  name-is l e d q = ap (λ (r : Record). part text (r .name) (r .nameLength)) (record-is l e d q) ∙ name-at text (e .places .name) (e .statement .name) (said l e d q)
+
+  has-is : (w : Bytes) (l : List Entry) (e : Entry) (d : List Entry) → es ≡ l ++ e ∷ d → hasName text table (suc (length d)) w ≡ same w (e .statement .name)
+  unfolding hasName recordOf
+  has-is w l e d q =
+      (λ i. leb (record-is l e d q i .name + record-is l e d q i .nameLength) (length text) && eqb (record-is l e d q i .nameLength) (length w) && same w (name-is l e d q i))
+      ∙ ap (λ (b : Bool). b && eqb (length (e .statement .name)) (length w) && same w (e .statement .name)) (le-leb (e .places .name + length (e .statement .name)) (length text) (omega (arith, said l e d q .fits, length-append text newline)))
+      ∙ same-sized (e .statement .name) w
+
+  search-is : (w : Bytes) (l d : List Entry) → es ≡ l ++ d → latestIn text table w (length d) ≡ latest w (statements d)
+  unfolding latestIn found statements hits gives
+  search-is w l [] q = refl
+  search-is w l (e ∷ d) q = (λ i. cond (has-is w l e d q i) (suc (sym (statements-length d) i)) (search-is w (l ++ e ∷ []) d (q ∙ sym (append-assoc l (e ∷ []) d)) i)) ∙ go (same w (e .statement .name))
+    where
+      go : (b : Bool) → cond b (suc (length (statements d))) (latest w (statements d)) ≡ length (cond b (e .statement ∷ statements d) (found w (statements d)))
+      go true = refl
+      go false = refl
+
+  -- The search over text and table finds what the definition names.
+  pub search-latest : (w : Bytes) → latestIn text table w (length es) ≡ latest w (statements es)
+  search-latest w = search-is w [] es refl
+
+-- ---- one turn of the search
+
+part-length : (text : Bytes) (p n : ℕ) → p + n ≤ length text → length (part text p n) ≡ n
+part-length text p n h = length-take-le n (drop p text) (rw length-drop (omega arith))
+
+part-at : (text : Bytes) (p n k : ℕ) → k < n → getD (part text p n) k 0 ≡ getD text (p + k) 0
+part-at text p n k h = getD-take n (drop p text) k 0 h ∙ getD-drop p text k 0
+
+-- a word that the text is too short for is nobody's name
+pub find-short : (text : Bytes) (tb : List ℕ) (w : Bytes) (n : ℕ) → length text < length w → latestIn text tb w n ≡ 0
+unfolding latestIn hasName
+find-short text tb w zero h = refl
+find-short text tb w (suc n) h = ap (λ (b : Bool). cond b (suc n) (latestIn text tb w n)) no ∙ find-short text tb w n h
+  where
+    no : hasName text tb (suc n) w ≡ false
+    no =
+        let r = recordIn tb (suc n) in
+        let in-text = leb (r .name + r .nameLength) (length text) in
+        let sized = eqb (r .nameLength) (length w) in
+        not-both (in-text && sized) (same w (nameIn text tb (suc n)))
+        (λ a b. omega (arith, leb-true (r .name + r .nameLength) (length text) (and-left in-text sized a), eqb-true (r .nameLength) (length w) (and-right in-text sized a)))
+
+-- record N, which names `size` bytes from `place` on; `last` is the last place where so many bytes fit as the word has
+module _ (text : Bytes) (tb : List ℕ) (w : Bytes) (fits : length w ≤ length text) (last : ℕ) (hl : last ≡ length text - length w) (N : ℕ) (h₀ : N ≢ 0) (place size : ℕ)
+    (hp : place ≡ getD tb ((N - 1) * width + 3) 0) (hs : size ≡ getD tb ((N - 1) * width + 4) 0) where
+  abbrev test : Bool
+  test = eqb size (length w) && leb place last
+
+  -- what the test says
+  pub find-fits : test ≡ true → (size ≡ length w) × (place + size ≤ length text)
+  find-fits t =
+      let q = eqb-true size (length w) (and-left (eqb size (length w)) (leb place last) t) in
+      let p = leb-true place last (and-right (eqb size (length w)) (leb place last) t) in
+      (q, omega arith)
+
+  stands : Bool
+  stands = leb (place + size) (length text) && eqb size (length w)
+
+  turn : latestIn text tb w N ≡ cond (stands && same w (part text place size)) N (latestIn text tb w (N - 1))
+  unfolding latestIn hasName nameIn recordIn fieldIn stands
+  turn =
+      let n : N ≡ suc (N - 1) = omega arith in
+      ap (latestIn text tb w) n
+      ∙ ap (λ (k : ℕ). cond (hasName text tb k w) k (latestIn text tb w (N - 1))) (sym n)
+      ∙ (λ i. cond (leb (sym hp i + sym hs i) (length text) && eqb (sym hs i) (length w) && same w (part text (sym hp i) (sym hs i))) N (latestIn text tb w (N - 1)))
+
+  one-less : (place + size ≤ length text → size ≡ length w → w ≡ part text place size → ⊥) → latestIn text tb w N ≡ latestIn text tb w (N - 1)
+  unfolding stands
+  one-less h = turn ∙ ap (λ (b : Bool). cond b N (latestIn text tb w (N - 1)))
+      (not-both stands (same w (part text place size)) (λ a b. h (leb-true (place + size) (length text) (and-left (leb (place + size) (length text)) (eqb size (length w)) a)) (eqb-true size (length w) (and-right (leb (place + size) (length text)) (eqb size (length w)) a)) (same-eq w (part text place size) b)))
+
+  pub find-other : test ≡ false → latestIn text tb w N ≡ latestIn text tb w (N - 1)
+  find-other t = one-less (λ p q e. true≢false (sym (both p q) ∙ t))
+    where
+      both : place + size ≤ length text → size ≡ length w → test ≡ true
+      both p q = rw (eq-eqb size (length w) q) (le-leb place last (omega arith))
+
+  module _ (t : test ≡ true) where
+    pub find-byte : (i : ℕ) → i < length w → (getD text (place + i) 0 ≡ getD w i 0 → ⊥) → latestIn text tb w N ≡ latestIn text tb w (N - 1)
+    find-byte i l h = one-less (λ p q e. h (sym (part-at text place size i (omega arith)) ∙ sym (ap (λ (z : Bytes). getD z i 0) e)))
+
+    pub find-hit : ((k : ℕ) → k < length w → getD text (place + k) 0 ≡ getD w k 0) → latestIn text tb w N ≡ N
+    unfolding stands
+    find-hit h =
+        let f = find-fits t in
+        let e : w ≡ part text place size = ext-getD 0 w (part text place size) (sym (f .0) ∙ sym (part-length text place size (f .1))) (λ k l. sym (h k l) ∙ sym (part-at text place size k (omega (arith, f .0)))) in
+        turn ∙ rw (le-leb (place + size) (length text) (f .1), eq-eqb size (length w) (f .0)) (ap (λ (b : Bool). cond b N (latestIn text tb w (N - 1))) (ap (same w) (sym e) ∙ same-refl w))
+
+pub find-none : (text : Bytes) (tb : List ℕ) (w : Bytes) → latestIn text tb w 0 ≡ 0
+unfolding latestIn
+find-none text tb w = refl

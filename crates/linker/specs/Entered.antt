@@ -1,0 +1,29 @@
+-- A record is entered behind the others, and the latest earlier one of its name is told its number.
+use mathlib.Core.Bool.{cond}
+use mathlib.Core.List.{List}
+use Prim.Native.Nat.{ℕ, zero, suc, _+_, _*_, _/_, min}
+use lib.Dec.{leb}
+use lib.ListN.{length, set}
+use lib.Seq.{sets}
+use Rattle.laws.specs.Bytes.{Bytes, part}
+use Rattle.linker.specs.Lookup.{latestIn}
+use Rattle.linker.specs.Seen.{clipped}
+use Rattle.statement.specs.declared.Draft.{Draft}
+use Rattle.scene.specs.Record.{fields, width, Record}
+
+-- a draft as a record, with no next of its name yet
+abbrev pub recordFrom : Draft → Record
+recordFrom d = record { type = d .kind; modifier = d .modifier; target = d .target; name = d .name; nameLength = d .size; string = d .string; strings = d .strings; real = d .real; reals = d .reals; next = 0 }
+
+-- "number of the next primitive of the same name": the record of a number is told it, and 0 is no record
+abbrev pub toldIn : List ℕ → ℕ → ℕ → List ℕ
+toldIn table zero number = table
+toldIn table (suc k) number = set table (k * width + 9) number
+
+-- the latest of the first n records that has the draft's name is told of record n + 1, which the draft becomes; nothing is
+-- entered where there is no room
+unfoldable pub enteredIn : Bytes → List ℕ → ℕ → Draft → List ℕ
+enteredIn text table n d =
+    let rows = length table / width in
+    let earlier = latestIn text table (part text (d .name) (d .size)) (min n rows) in
+    cond (leb rows n) table (sets (toldIn table earlier (clipped (n + 1))) (n * width) (fields (recordFrom d)))

@@ -1,0 +1,3 @@
+pub mod Lookup
+pub mod Seen
+pub mod Entered

@@ -1,0 +1,19 @@
+-- The backward search for a name, over the text and the table.
+use mathlib.Core.Bool.{Bool, _&&_, cond}
+use mathlib.Core.List.{List}
+use Prim.Native.Nat.{ℕ, zero, suc, _+_}
+use lib.Dec.{eqb, leb}
+use lib.ListN.{length}
+use Rattle.laws.specs.Bytes.{Bytes, same}
+use Rattle.scene.specs.Record.{nameIn, recordIn}
+
+-- whether record n has the name w: inside the text, as many bytes, and the same
+unfoldable pub hasName : Bytes → List ℕ → ℕ → Bytes → Bool
+hasName text table n w =
+    let r = recordIn table n in
+    leb (r .name + r .nameLength) (length text) && eqb (r .nameLength) (length w) && same w (nameIn text table n)
+
+-- the number of the latest of the first n records that has the name w; 0 for none
+unfoldable pub latestIn : Bytes → List ℕ → Bytes → ℕ → ℕ
+latestIn text table w zero = 0
+latestIn text table w (suc n) = cond (hasName text table (suc n) w) (suc n) (latestIn text table w n)

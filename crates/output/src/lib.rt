@@ -1,0 +1,36 @@
+// What programs print. Each function answers whether all of it was written: a write that fails is said on standard error,
+// and a caller prints nothing after it.
+use libc::STDERR_FILENO;
+use libc::STDOUT_FILENO;
+
+// Takes what a write to standard output answered, and says why it failed if it did: at once, as a later call may change
+// what the system has to say.
+pub fn noticed(written: bool) -> bool {
+    if written {
+        return true;
+    }
+    os::fail(b"standard output");
+    false
+}
+
+pub fn print(text: &[u8]) -> bool {
+    noticed(io::write_all(STDOUT_FILENO, text))
+}
+
+fn write_refusal(fd: i32, reason: u32, place: usize) -> bool {
+    io::write_all(fd, b"refused=")
+        && io::print_decimal(fd, reason as u64)
+        && io::write_all(fd, b" place=")
+        && io::print_decimal(fd, place as u64)
+        && io::write_all(fd, b"\n")
+}
+
+// The line of a text that is refused.
+pub fn print_refusal(reason: u32, place: usize) -> bool {
+    noticed(write_refusal(STDOUT_FILENO, reason, place))
+}
+
+// The same line on standard error.
+pub fn say_refusal(reason: u32, place: usize) {
+    write_refusal(STDERR_FILENO, reason, place);
+}

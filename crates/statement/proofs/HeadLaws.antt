@@ -1,0 +1,76 @@
+-- One law for each answer of a step, in the code's terms.
+use mathlib.Core.Bool.{Bool, true, false}
+use mathlib.Core.Path.{_≡_, refl}
+use Prim.Native.Nat.{ℕ, _≤_, _<_}
+use borrow.Author.Tests.{lt-ltb, le-ltb}
+use Rattle.laws.proofs.NatLaws.{nonzero}
+use Rattle.laws.specs.Bytes.{Bytes, same, bytes}
+use Rattle.scene.specs.Statement.{void}
+use Rattle.scene.specs.Types.{isSurface, typeNumber}
+use Rattle.statement.specs.Heads.{goingTo, kindStep, linkTo, modifierStep, nameStep, targetAt, targetStep, typedAs, withKind, withName, withTarget}
+use Rattle.statement.specs.States.{opened}
+use Rattle.statement.specs.declared.Draft.{Draft}
+use Rattle.statement.specs.declared.Phase.{Phase}
+use Rattle.statement.specs.declared.Seen.{Seen}
+use Rattle.statement.specs.declared.State.{State}
+use Rattle.statement.specs.declared.Phase.the-variants as is
+use Rattle.statement.specs.declared.Step.the-variants as to
+
+module _ (w : Bytes) (room : ℕ) (s : State) (v : Seen) where
+  -- the modifier: d is the draft, q whether the word is `void`
+  module _ {q : Bool} (l : s .count < room) (e : q ≡ same w void) where
+    pub modifier-void : {d : Draft} → d ≡ opened 0 → q ≡ true → goingTo s is.Kind 0 d ≡ modifierStep w room s v
+    unfolding modifierStep
+    modifier-void h t = rw (h, lt-ltb (s .count) room l, ← e, t)
+
+    pub modifier-unknown : q ≡ false → v .found ≡ 0 → to.Refused 7 (v .place) ≡ modifierStep w room s v
+    unfolding modifierStep
+    modifier-unknown t z = rw (lt-ltb (s .count) room l, ← e, t, z)
+
+    pub modifier-known : {d : Draft} → d ≡ opened (v .found) → q ≡ false → (v .found ≡ 0 → ⊥) → goingTo s is.Kind 0 d ≡ modifierStep w room s v
+    unfolding modifierStep
+    modifier-known h t z = rw (h, lt-ltb (s .count) room l, ← e, t) (nonzero (λ n k. goingTo s is.Kind 0 (opened n) ≡ linkTo s (v .place) n) (λ k. refl) (v .found) z)
+
+  pub modifier-full : room ≤ s .count → to.Refused 6 (v .place) ≡ modifierStep w room s v
+  unfolding modifierStep
+  modifier-full h = rw (le-ltb (s .count) room h)
+
+module _ (w : Bytes) (s : State) (v : Seen) where
+  -- the type: t is its number
+  module _ {q : Bool} (e : q ≡ same w (bytes "alias")) where
+    pub kind-alias : q ≡ true → goingTo s is.AliasName 0 (s .draft) ≡ kindStep w s v
+    unfolding kindStep
+    kind-alias h = rw (← e, h)
+
+    pub kind-unknown : {t : ℕ} → q ≡ false → t ≡ typeNumber w → t ≡ 0 → to.Refused 8 (v .place) ≡ kindStep w s v
+    unfolding kindStep
+    kind-unknown h g z = rw (← e, h, ← g, z)
+
+    pub kind-known : {t : ℕ} → q ≡ false → t ≡ typeNumber w → (t ≡ 0 → ⊥) → goingTo s is.Name 0 (withKind (s .draft) t) ≡ kindStep w s v
+    unfolding kindStep
+    kind-known {t} h g z = rw (← e, h, ← g) (nonzero (λ n k. goingTo s is.Name 0 (withKind (s .draft) n) ≡ typedAs s (v .place) n) (λ k. refl) t z)
+
+  -- a name
+  module _ (next : Phase) {q : Bool} (e : q ≡ same w void) where
+    pub name-void : q ≡ true → to.Refused 9 (v .place) ≡ nameStep next w s v
+    unfolding nameStep
+    name-void h = rw (← e, h)
+
+    pub name-given : {d : Draft} → d ≡ withName (s .draft) (v .name) (v .size) → q ≡ false → goingTo s next 0 d ≡ nameStep next w s v
+    unfolding nameStep
+    name-given g h = rw (g, ← e, h)
+
+-- a target
+module _ (s : State) (v : Seen) where
+  pub target-unknown : v .found ≡ 0 → to.Refused 10 (v .place) ≡ targetStep s v
+  unfolding targetStep
+  target-unknown z = rw z
+
+  module _ {q : Bool} (z : v .found ≡ 0 → ⊥) (e : q ≡ isSurface (v .source .kind)) where
+    pub target-surface : q ≡ true → to.Refused 11 (v .place) ≡ targetStep s v
+    unfolding targetStep
+    target-surface h = nonzero (λ n k. to.Refused 11 (v .place) ≡ targetAt s v n) (λ k. rw (← e, h)) (v .found) z
+
+    pub target-known : {d : Draft} → d ≡ withTarget (s .draft) v → q ≡ false → to.Complete (record { at = s .at; count = s .count; used = s .used; left = s .left; phase = s .phase; draft = d }) ≡ targetStep s v
+    unfolding targetStep
+    target-known {d} g h = nonzero (λ n k. to.Complete (record { at = s .at; count = s .count; used = s .used; left = s .left; phase = s .phase; draft = d }) ≡ targetAt s v n) (λ k. rw (g, ← e, h)) (v .found) z

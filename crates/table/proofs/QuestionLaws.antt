@@ -1,0 +1,54 @@
+-- Laws of the questions to a table: one for each answer.
+use mathlib.Core.List.{List}
+use mathlib.Core.Path.{_≡_, refl, sym}
+use Prim.Native.Nat.{ℕ, _+_, _*_, _-_, _≤_, _<_}
+use borrow.Author.Tests.{le-leb, lt-leb}
+use lib.ListN.{length, List·getD-eq-default}
+use Rattle.scene.specs.Record.{fieldIn, recordIn}
+use Rattle.table.specs.Question.{numberRefusal}
+
+-- ---- the numbers of a record
+
+pub none-at : (table : List ℕ) (n k : ℕ) → length table ≤ (n - 1) * 10 + k → 0 ≡ fieldIn table n k
+unfolding fieldIn
+none-at table n k h = sym (List·getD-eq-default table 0 h)
+
+module _ (table : List ℕ) (n : ℕ) where
+  pub type-field : fieldIn table n 0 ≡ recordIn table n .type
+  unfolding fieldIn recordIn
+  type-field = refl
+
+  pub modifier-field : fieldIn table n 1 ≡ recordIn table n .modifier
+  unfolding fieldIn recordIn
+  modifier-field = refl
+
+  pub name-field : fieldIn table n 3 ≡ recordIn table n .name
+  unfolding fieldIn recordIn
+  name-field = refl
+
+  pub length-field : fieldIn table n 4 ≡ recordIn table n .nameLength
+  unfolding fieldIn recordIn
+  length-field = refl
+
+-- ---- whether a primitive can be asked about
+
+module _ (table : List ℕ) (count n : ℕ) where
+  pub count-over : 1024 < count → 18 ≡ numberRefusal table count n
+  unfolding numberRefusal
+  count-over h = rw (lt-leb count 1024 h)
+
+  pub count-beyond : count ≤ 1024 → length table < count * 10 → 18 ≡ numberRefusal table count n
+  unfolding numberRefusal
+  count-beyond h l = rw (le-leb count 1024 h, lt-leb (count * 10) (length table) l)
+
+  pub number-0 : count ≤ 1024 → count * 10 ≤ length table → n ≡ 0 → 17 ≡ numberRefusal table count n
+  unfolding numberRefusal
+  number-0 h l e = rw (le-leb count 1024 h, le-leb (count * 10) (length table) l, e)
+
+  pub number-over : count ≤ 1024 → count * 10 ≤ length table → 0 < n → count < n → 17 ≡ numberRefusal table count n
+  unfolding numberRefusal
+  number-over h l z o = rw (le-leb count 1024 h, le-leb (count * 10) (length table) l, le-leb 1 n z, lt-leb n count o)
+
+  pub number-good : count ≤ 1024 → count * 10 ≤ length table → 0 < n → n ≤ count → 0 ≡ numberRefusal table count n
+  unfolding numberRefusal
+  number-good h l z o = rw (le-leb count 1024 h, le-leb (count * 10) (length table) l, le-leb 1 n z, le-leb n count o)

@@ -1,0 +1,134 @@
+// The record's layout, and what every user of a table of records does with one. A table may hold anything.
+ghost use mathlib.Core.Path.{_≡_};
+ghost use Prim.Native.Nat.{_-_};
+ghost use lib.ListN.{length, replicate};
+ghost use Rattle.scene.specs.HouseRules.{zeroReal};
+ghost use Rattle.scene.specs.Record.{fieldIn, nameIn, settingsFor};
+ghost use Rattle.table.specs.Question.{numberRefusal};
+use scene::Settings;
+
+// How many numbers a record has.
+pub const WIDTH: usize = 10;
+
+// A record's numbers, in their order: type, modifier link, alias target, name's place and length, first string's place and string
+// count, first real's index and real count, the next of the same name.
+pub const KIND: usize = 0;
+
+pub const MODIFIER: usize = 1;
+
+pub const TARGET: usize = 2;
+
+pub const NAME: usize = 3;
+
+pub const NAME_LENGTH: usize = 4;
+
+pub const STRING: usize = 5;
+
+pub const STRINGS: usize = 6;
+
+pub const REAL: usize = 7;
+
+pub const REALS: usize = 8;
+
+pub const NEXT: usize = 9;
+
+// The most records and reals that a reading stores, and how many numbers that many records have.
+pub const MOST_RECORDS: usize = 1024;
+
+pub const MOST_REALS: usize = 4096;
+
+pub const MOST_NUMBERS: usize = MOST_RECORDS * WIDTH;
+
+// The settings of a reading into tables of these lengths.
+pub fn settings_for(numbers: usize, reals: usize) -> Settings
+    ensures { λ r. ⌜ r ≡ settingsFor numbers reals ⌝ }
+{
+    Settings {
+        records: lexer::least(MOST_RECORDS, numbers / WIDTH),
+        reals: lexer::least(MOST_REALS, reals),
+    }
+}
+
+// The index of record n, from 1; that of record 1 for 0.
+fn row_of(n: usize) -> usize
+    ensures { λ r. ⌜ r ≡ n - 1 ⌝ }
+{
+    if n == 0 { 0 } else { n - 1 }
+}
+
+// Number k, from 0, of record n, from 1; 0 where the table has none.
+pub fn field(records: &[u32], n: usize, k: usize) -> u32
+    ensures { λ r. ⌜ r ≡ fieldIn (now (records .entry)) n k ⌝ }
+{
+    let row = row_of(n);
+    if records.len() / WIDTH < row {
+        return 0;
+    }
+    let at = row * WIDTH;
+    if records.len() <= at {
+        return 0;
+    }
+    if records.len() - at <= k {
+        return 0;
+    }
+    records[at + k]
+}
+
+// The name of record n: what the text has of the part that the record names.
+pub fn name_of<'a>(text: &'a [u8], records: &[u32], n: usize) -> &'a [u8]
+    ensures { λ r. ⌜ now r ≡ nameIn (now (text .entry)) (now (records .entry)) n ⌝ }
+{
+    lexer::part(
+        text,
+        field(records, n, NAME) as usize,
+        field(records, n, NAME_LENGTH) as usize,
+    )
+}
+
+// Why a primitive cannot be asked about: 18 for the count, then 17 for the number; else 0.
+pub fn number_refusal(records: &[u32], count: usize, number: usize) -> u32
+    ensures { λ r. ⌜ r ≡ numberRefusal (now (records .entry)) count number ⌝ }
+{
+    if MOST_RECORDS < count {
+        return 18;
+    }
+    if records.len() < count * WIDTH {
+        return 18;
+    }
+    if number == 0 {
+        return 17;
+    }
+    if count < number {
+        return 17;
+    }
+    0
+}
+
+fn clear_records(records: &mut [u32])
+    ensures { λ _. ⌜ now (records .exit) ≡ replicate (length (now (records .entry))) 0 ⌝ }
+{
+    let mut i = 0;
+    while i < records.len() {
+        records[i] = 0;
+        i += 1;
+    }
+}
+
+fn clear_reals(reals: &mut [f64])
+    ensures { λ _. ⌜ now (reals .exit) ≡ replicate (length (now (reals .entry))) zeroReal ⌝ }
+{
+    let mut i = 0;
+    while i < reals.len() {
+        reals[i] = 0.0;
+        i += 1;
+    }
+}
+
+// Zeroes both tables.
+pub fn clear(records: &mut [u32], reals: &mut [f64])
+    ensures { λ _. ⌜ now (records .exit) ≡ replicate (length (now (records .entry))) 0 ⌝ }
+    ensures { λ _. ⌜ now (reals .exit) ≡ replicate (length (now (reals .entry))) zeroReal ⌝ }
+{
+    clear_records(records);
+    clear_reals(reals);
+}

@@ -1,4 +1,0 @@
-// Writes out the scene text on standard input, tidy.
-fn main() {
-    print::tidy_input();
-}

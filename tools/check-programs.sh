@@ -1,0 +1,87 @@
+#!/usr/bin/env bash
+# What a stored case cannot show of the built programs: what cannot be read or written, options, and standard error.
+#
+#     tools/check-programs.sh [FOLDER]
+#
+# FOLDER is target/bin if not given. Prints what is not as expected, then how many cases passed; the exit status is 1 if one failed.
+cd "$(dirname "$0")/.." || exit 2
+bin=${1:-target/bin}
+scene=samples/truck-nine.rad
+scratch=$(mktemp -d) || exit 2
+trap 'rm -rf "$scratch"' EXIT
+passed=0 failed=0
+
+# A command, and what it has to write to standard output and to standard error.
+expect() {
+    eval "$1" >"$scratch/out" 2>"$scratch/err"
+    if cmp -s "$scratch/out" <(printf '%s' "$2") && cmp -s "$scratch/err" <(printf '%s' "$3"); then
+        passed=$((passed + 1))
+    else
+        failed=$((failed + 1))
+        echo "not as expected: $1"
+        head -n 5 "$scratch/out" "$scratch/err"
+    fi
+}
+
+listing=$("$bin/list" <$scene)$'\n'
+finishes=$("$bin/finishes" <$scene)$'\n'
+tidy=$("$bin/tidy" <$scene)$'\n'
+head -c 65536 /dev/zero | tr '\0' '#' >"$scratch/fits"
+head -c 65537 /dev/zero | tr '\0' '#' >"$scratch/long"
+printf 'wall' >"$scratch/refused"
+full='standard output: No space left on device'$'\n'
+
+# One file is answered as standard input is, and several each under a heading.
+expect '$bin/list $scene' "$listing" ''
+expect '$bin/finishes $scene' "$finishes" ''
+expect '$bin/tidy $scene' "$tidy" ''
+expect '$bin/list $scene $scene' "scene=$scene"$'\n'"${listing}scene=$scene"$'\n'"$listing" ''
+expect '$bin/finishes $scene $scene' "scene=$scene"$'\n'"${finishes}scene=$scene"$'\n'"$finishes" ''
+expect '$bin/tidy $scene $scene' "scene=$scene"$'\n'"${tidy}scene=$scene"$'\n'"$tidy" ''
+
+# A read that fails is no empty scene.
+for program in list finishes words numerals; do
+    expect '$bin/$program <$scratch' $'unreadable\n' ''
+    expect '$bin/$program <&-' $'unreadable\n' ''
+done
+expect '$bin/tidy <$scratch' $'unreadable\n' $'unreadable\n'
+expect '$bin/tidy <&-' $'unreadable\n' $'unreadable\n'
+for program in list finishes; do
+    expect '$bin/$program samples' $'scene=samples unreadable\n' ''
+    expect '$bin/$program missing' $'scene=missing unreadable\n' ''
+    expect '$bin/$program ""' $'scene= unreadable\n' ''
+done
+expect '$bin/tidy missing' $'scene=missing unreadable\n' $'scene=missing unreadable\n'
+expect '$bin/list missing $scene' $'scene=missing unreadable\n'"scene=$scene"$'\n'"$listing" ''
+expect '$bin/compare $scene samples' $'scene=right unreadable\n' ''
+
+# 65,536 bytes fit, and one more does not.
+expect '$bin/list <$scratch/fits' $'primitives=0 reals=0\n' ''
+expect '$bin/words <$scratch/fits' "place=0 word=$(cat "$scratch/fits")"$'\n' ''
+for program in list finishes words numerals; do
+    expect '$bin/$program <$scratch/long' $'refused=1 place=0\n' ''
+done
+expect '$bin/list $scratch/long' $'refused=1 place=0\n' ''
+expect '$bin/tidy <$scratch/long' $'refused=1 place=0\n' $'refused=1 place=0\n'
+
+# A refusal is told from a tidy text by standard error.
+expect '$bin/tidy <$scratch/refused' $'refused=7 place=0\n' $'refused=7 place=0\n'
+expect '$bin/tidy $scratch/refused' $'refused=7 place=0\n' "scene=$scratch/refused refused=7 place=0"$'\n'
+
+# A write that fails is said once, and is the last. A file that is opened may get the number of a closed standard output.
+for program in list finishes tidy words numerals; do
+    expect '$bin/$program <$scene >/dev/full' '' "$full"
+    expect '$bin/$program <$scene >&-' '' $'standard output: Bad file descriptor\n'
+done
+for program in list finishes tidy; do
+    expect '$bin/$program $scene $scene >/dev/full' '' "$full"
+    expect '$bin/$program $scene $scene >&-' '' $'standard output: Bad file descriptor\n'
+    # An option is refused before anything is done.
+    expect '$bin/$program -x $scene' "usage: $program [FILE..]"$'\n' ''
+    expect '$bin/$program $scene -' "usage: $program [FILE..]"$'\n' ''
+done
+expect '$bin/compare -x $scene' $'usage: compare LEFT RIGHT\n' ''
+expect '$bin/compare $scene' $'usage: compare LEFT RIGHT\n' ''
+
+echo "$passed passed, $failed failed"
+[ "$failed" -eq 0 ]

@@ -22,7 +22,9 @@ fn main() {
         if !print_names(left, left + 1) {
             return;
         }
-        saves::compare_arguments(left, left + 1);
+        if !saves::compare_arguments(left, left + 1) {
+            return;
+        }
         pair += 1;
     }
 }

@@ -1,53 +1,15 @@
 -- A scene against itself, the sides exchanged, and one state for each key.
-use mathlib.Core.Bool.{Bool, true, false, cond, _&&_, _||_, false≢true}
+use mathlib.Core.Bool.{Bool, true, false, cond, _||_, false≢true}
 use mathlib.Core.List.{List, [], _∷_, map}
 use mathlib.Core.Path.{_≡_, refl, ap, sym, _∙_}
-use borrow.Author.Tests.{eq-eqb}
-use lib.Ieee.{Float, binary64, toBits}
-use Rattle.bits.specs.Bits.{sameReals}
 use Rattle.laws.proofs.BoolLaws.{cond-elim}
-use Rattle.laws.proofs.BytesLaws.{same-refl}
-use Rattle.laws.specs.Bytes.{Bytes}
 use Rattle.scene.specs.Told.{Told}
-use Rattle.comparison.proofs.KeyLaws.{keys-stand, keys-turned}
-use Rattle.comparison.proofs.OrderLaws.{eqb-sym, same-sym, key-same, key-sym}
-use Rattle.comparison.specs.Compare.{Content, contentOf, sameWords, sameContent, State, absent, left, right, changed, alike, stateAt, stateOf, Line, line, linesFor, compared, turned, turnedLine}
-use Rattle.comparison.specs.Key.{Key, found, isFound, keysOf}
-use Rattle.comparison.specs.Properties.{standsIn}
-
--- ---- equal content
-
-words-same : (ws : List Bytes) → sameWords ws ws ≡ true
-unfolding sameWords
-words-same [] = refl
-words-same (w ∷ ws) = rw (same-refl w) (words-same ws)
-
-reals-same : (xs : List Float) → sameReals xs xs ≡ true
-unfolding sameReals
-reals-same [] = refl
-reals-same (x ∷ xs) = rw (eq-eqb (toBits binary64 x) (toBits binary64 x) refl) (reals-same xs)
-
-content-same : (c : Content) → sameContent c c ≡ true
-unfolding sameContent
-content-same c = rw (eq-eqb (c .type) (c .type) refl, words-same (c .strings), reals-same (c .reals), key-same (c .alias)) (key-same (c .modifier))
-
-words-sym : (ws vs : List Bytes) → sameWords ws vs ≡ sameWords vs ws
-unfolding sameWords
-words-sym [] [] = refl
-words-sym [] (v ∷ vs) = refl
-words-sym (w ∷ ws) [] = refl
-words-sym (w ∷ ws) (v ∷ vs) = λ i. same-sym w v i && words-sym ws vs i
-
-reals-sym : (xs ys : List Float) → sameReals xs ys ≡ sameReals ys xs
-unfolding sameReals
-reals-sym [] [] = refl
-reals-sym [] (y ∷ ys) = refl
-reals-sym (x ∷ xs) [] = refl
-reals-sym (x ∷ xs) (y ∷ ys) = λ i. eqb-sym (toBits binary64 x) (toBits binary64 y) i && reals-sym xs ys i
-
-content-sym : (c d : Content) → sameContent c d ≡ sameContent d c
-unfolding sameContent
-content-sym c d = λ i. eqb-sym (c .type) (d .type) i && words-sym (c .strings) (d .strings) i && reals-sym (c .reals) (d .reals) i && key-sym (c .alias) (d .alias) i && key-sym (c .modifier) (d .modifier) i
+use Rattle.content.proofs.ContentLaws.{content-same, content-sym}
+use Rattle.content.specs.Content.{Content, contentOf, sameContent}
+use Rattle.keys.proofs.KeyLaws.{keys-stand, keys-turned}
+use Rattle.comparison.specs.Compare.{State, absent, left, right, changed, alike, stateAt, stateOf, Line, line, linesFor, compared, turned, turnedLine}
+use Rattle.keys.specs.Key.{Key, found, isFound, keysOf}
+use Rattle.keys.specs.Properties.{standsIn}
 
 -- ---- a state that prints nothing
 

@@ -1,8 +1,8 @@
 -- Two neighbouring independent blocks exchanged: against the text before, the new one compares as all same.
 use mathlib.Core.List.{List, [], _∷_, _++_, map-append}
 use mathlib.Core.Path.{_≡_, refl, ap, sym, _∙_, subst₂}
-use Prim.Native.Nat.{ℕ}
-use lib.ListN.{length, length-map}
+use Prim.Native.Nat.{ℕ, _*_}
+use lib.ListN.{length, take, length-map}
 use Rattle.laws.specs.Bytes.{Bytes}
 use Rattle.scene.proofs.AcceptLaws.{accept-forth}
 use Rattle.scene.proofs.BlockLaws.{Parts, parts, read-turned}
@@ -13,16 +13,17 @@ use Rattle.scene.specs.Block.{shift}
 use Rattle.scene.specs.Exchange.{Exchange, exchangeShift}
 use Rattle.scene.specs.Links.{gives, hits}
 use Rattle.scene.specs.Reading.{Entry, statements, accepted, read}
+use Rattle.scene.specs.Record.{width, recordImage, realImage}
 use Rattle.scene.specs.declared.Settings.{Settings}
 use Rattle.scene.specs.Statement.{Statement}
 use Rattle.scene.specs.Told.{Told, renumbered}
-use Rattle.comparison.proofs.NameLaws.{named, names, times-statements, keys-statements}
-use Rattle.comparison.proofs.PartLaws.{Apart, times-kept, keys-kept}
+use Rattle.keys.proofs.NameLaws.{named, names, times-statements, keys-statements}
+use Rattle.keys.proofs.PartLaws.{Apart, times-kept, keys-kept}
 use Rattle.comparison.proofs.RenumberLaws.{compare-renumbered}
-use Rattle.comparison.proofs.RowsLaws.{row}
+use Rattle.keys.proofs.RowsLaws.{row, scene-read}
 use Rattle.comparison.specs.Compare.{compared}
-use Rattle.comparison.specs.Key.{times, from, keyOf}
-use Rattle.comparison.specs.Rows.{rowsOf}
+use Rattle.keys.specs.Key.{times, from, keyOf}
+use Rattle.keys.specs.Rows.{rowsOf, sceneRows}
 
 -- ---- statements that share no name
 
@@ -89,3 +90,7 @@ module _ (r : Settings) (p a b q : Bytes) (es : List Entry) (x : Exchange r p a 
 
   pub compare-exchange : compared (rowsOf (p ++ a ++ b ++ q) es) (rowsOf (p ++ b ++ a ++ q) (exchange-law r p a b q es x .entries)) ≡ []
   compare-exchange = compare-renumbered old new (exchangeShift es p a b) keys often rows
+
+  -- also read afresh into tables of any sizes, where those of the records are lent up to the last one
+  pub fresh-exchange : (n k m j : ℕ) → compared (sceneRows (p ++ a ++ b ++ q) (take (length es * width) (recordImage n (read r (p ++ a ++ b ++ q)))) (realImage k (read r (p ++ a ++ b ++ q)))) (sceneRows (p ++ b ++ a ++ q) (take (length es′ * width) (recordImage m (read r (p ++ b ++ a ++ q)))) (realImage j (read r (p ++ b ++ a ++ q)))) ≡ []
+  fresh-exchange n k m j = (λ i. compared (scene-read r (p ++ a ++ b ++ q) es (x .reads) n k i) (scene-read r (p ++ b ++ a ++ q) es′ reads′ m j i)) ∙ compare-exchange

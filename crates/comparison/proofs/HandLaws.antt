@@ -1,29 +1,31 @@
--- Handing out: where a key is held, which one follows, and that the lines handed out are those of the comparison.
+-- Handing out: the numbers of the key that follows, what it comes to, and that the lines handed out are those of the comparison.
 use mathlib.Core.Bool.{Bool, true, false, cond, _&&_, _||_, false≢true, true≢false}
 use mathlib.Core.List.{List, [], _∷_}
 use mathlib.Core.Option.{Option, none, some}
 use mathlib.Core.Path.{_≡_, refl, ap, sym, _∙_, subst}
-use Prim.Native.Nat.{ℕ, zero, suc, _+_, _≤_, _<_}
+use Prim.Native.Nat.{ℕ, zero, suc, _+_, _/_, _≤_, _<_}
 use native.Mathlib.Omega.{arith}
 use borrow.Author.Tests.{eq-eqb, ne-eqb, eqb-true, eqb-false}
-use lib.Dec.{eqb, leb}
+use lib.Dec.{eqb}
 use lib.Ieee.{Float}
 use lib.ListN.{length}
+use Rattle.content.specs.Content.{contentIn, contentOf, sameContent}
+use Rattle.keys.proofs.KeyLaws.{keys-stand}
+use Rattle.keys.proofs.NextLaws.{after-next, after-start, found-most, next-stands}
+use Rattle.keys.proofs.NumberLaws.{found-from}
+use Rattle.keys.proofs.ScanLaws.{rows-count, key-bare, found-rows, times-most, least-reals}
+use Rattle.keys.specs.Key.{Key, nthOf, keyAt, keysOf, from, found, isFound, lower}
+use Rattle.keys.specs.Next.{after, lesser, leastAbove, oneMore, firstOf, nextName, nextKey, onward}
+use Rattle.keys.specs.Rows.{rowsIn, sceneRows}
+use Rattle.keys.specs.Scan.{namedBy}
 use Rattle.laws.proofs.BoolLaws.{and-left, and-right, cond-elim}
 use Rattle.laws.specs.Bytes.{Bytes}
-use Rattle.scene.specs.Record.{recordIn}
-use Rattle.scene.specs.Told.{Told, tells}
-use Rattle.comparison.proofs.KeyLaws.{keys-stand}
-use Rattle.comparison.proofs.NextLaws.{after-next, after-start, found-most, next-stands}
-use Rattle.comparison.proofs.NumberLaws.{found-from}
-use Rattle.comparison.proofs.ScanLaws.{rows-count, from-within, key-reals, found-rows, times-most, least-reals}
-use Rattle.comparison.specs.Compare.{State, absent, left, right, changed, alike, contentOf, sameContent, stateAt, stateOf, Line, line, linesFor, compared}
-use Rattle.comparison.specs.Key.{Key, keyAt, keyOf, keysOf, from, found, isFound, lower}
-use Rattle.comparison.specs.Next.{after, lesser, leastAbove, oneMore, firstOf, nextKey, onward}
-use Rattle.comparison.specs.Rows.{rowsIn}
-use Rattle.comparison.specs.Scan.{nameAt, namedBy, nthOf, LeastIn}
-use Rattle.comparison.specs.Hand.{keyIn, heldIn, rowsAt, placeIn, placeOf, stateIn, lesserOf, stepIn, stepAt, stepFor, linesAfter, answerIn, firstLine, nextLine, handedOn, handed}
+use Rattle.scene.specs.Record.{nameIn, width}
+use Rattle.scene.specs.Told.{Told}
+use Rattle.comparison.specs.Compare.{State, absent, left, right, changed, alike, stateAt, stateOf, Line, line, linesFor, compared}
+use Rattle.comparison.specs.Hand.{keyIn, lesserOf, numbersBy, numbersOf, numbersFor, firstNumbers, numbersAfter, nextNumbers, placeBy, placeOf, stateBy, stateIn, stepIn, stepBy, stepAt, stepFor, nextStep, linesAfter, answerIn, firstLine, nextLine, handedOn, handed}
 use Rattle.comparison.specs.declared.Next.{Next}
+use Rattle.comparison.specs.declared.Numbers.{Numbers}
 use Rattle.comparison.specs.declared.Place.{Place}
 use Rattle.comparison.specs.declared.State.{State as CodeState}
 use Rattle.comparison.specs.declared.Step.{Step}
@@ -32,42 +34,9 @@ use Rattle.comparison.specs.declared.Place.the-variants as on
 use Rattle.comparison.specs.declared.State.the-variants as is
 use Rattle.comparison.specs.declared.Step.the-variants as step
 
--- ---- a key in one scene
-
--- number m has a key
-record Held (t : Bytes) (r : List ℕ) (xs : List Float) (c : ℕ) (k : Key) (m : ℕ) : Type 0 where
-  rest : List Told
-  leads : found k (rowsIn t r xs c) ≡ tells t xs (recordIn r m) ∷ rest
-  number : m ≡ suc (length rest)
-
-module _ (t : Bytes) (r : List ℕ) (xs : List Float) (c : ℕ) where
-  module _ (k : Key) (m : ℕ) (q : m ≡ length (found k (rowsIn t r [] c))) where
-    leads-to : found k (rowsIn t r xs c) ≡ rowsIn t r xs m
-    leads-to = found-rows t r k xs [] c ∙ ap (rowsIn t r xs) (sym q)
-
-    missing : m ≡ 0 → found k (rowsIn t r xs c) ≡ []
-    unfolding rowsIn
-    missing e = leads-to ∙ ap (rowsIn t r xs) e
-
-    held : (m ≡ 0 → ⊥) → Held t r xs c k m
-    unfolding rowsIn
-    held h = go m leads-to h
-      where
-        go : (m : ℕ) → found k (rowsIn t r xs c) ≡ rowsIn t r xs m → (m ≡ 0 → ⊥) → Held t r xs c k m
-        go zero f h = absurd (h refl)
-        go (suc n) f h = record { rest = rowsIn t r xs n; leads = f; number = sym (ap suc (rows-count t r xs n)) }
-
-  -- a key that is found has fewer above it than there are
-  pub above-fits : (w : Bytes) (up m : ℕ) → m ≡ length (found (nthOf w (suc up)) (rowsIn t r [] c)) → (m ≡ 0 → ⊥) → up < c
-  above-fits w up m q h = omega (arith, found-most (nthOf w (suc up)) (rowsIn t r [] c) (go (found (nthOf w (suc up)) (rowsIn t r [] c)) q) .1, times-most t r w [] c)
-    where
-      go : (d : List Told) → m ≡ length d → isFound d ≡ true
-      go [] e = absurd (h e)
-      go (x ∷ d) e = refl
-
 -- ---- the lesser of two names
 
-named-some : (t : Bytes) (r : List ℕ) (m : ℕ) → (m ≡ 0 → ⊥) → namedBy t r m ≡ some (nameAt t r m)
+named-some : (t : Bytes) (r : List ℕ) (m : ℕ) → (m ≡ 0 → ⊥) → namedBy t r m ≡ some (nameIn t r m)
 named-some t r zero h = absurd (h refl)
 named-some t r (suc m) h = refl
 
@@ -77,7 +46,7 @@ some-cond false x y = refl
 
 module _ (a : Bytes) (records : List ℕ) (m : ℕ) (b : Bytes) (others : List ℕ) (n : ℕ) where
   -- by what each test came to
-  module _ (v u : Bytes) (g : v ≡ nameAt a records m) (h : u ≡ nameAt b others n) where
+  module _ (v u : Bytes) (g : v ≡ nameIn a records m) (h : u ≡ nameIn b others n) where
     pub lesser-none : m ≡ 0 → u ≡ lesserOf a records m b others n
     unfolding lesserOf
     lesser-none e = rw (eq-eqb m 0 e) h
@@ -88,7 +57,7 @@ module _ (a : Bytes) (records : List ℕ) (m : ℕ) (b : Bytes) (others : List �
       lesser-only f = rw (ne-eqb m 0 e, eq-eqb n 0 f) g
 
       module _ (f : n ≡ 0 → ⊥) (t : Bool) (x : t ≡ lower u v) where
-        test-is : lower (nameAt b others n) (nameAt a records m) ≡ t
+        test-is : lower (nameIn b others n) (nameIn a records m) ≡ t
         test-is = (λ i. lower (sym h i) (sym g i)) ∙ sym x
 
         pub lesser-second : t ≡ true → u ≡ lesserOf a records m b others n
@@ -104,96 +73,183 @@ module _ (a : Bytes) (records : List ℕ) (m : ℕ) (b : Bytes) (others : List �
   unfolding lesserOf
   lesser-some = go (eqb m 0) (eqb n 0) refl refl
     where
-      go : (x y : Bool) → eqb m 0 ≡ x → eqb n 0 ≡ y → (x && y) ≡ false → lesser (namedBy a records m) (namedBy b others n) ≡ some (cond x (nameAt b others n) (cond y (nameAt a records m) (cond (lower (nameAt b others n) (nameAt a records m)) (nameAt b others n) (nameAt a records m))))
+      go : (x y : Bool) → eqb m 0 ≡ x → eqb n 0 ≡ y → (x && y) ≡ false → lesser (namedBy a records m) (namedBy b others n) ≡ some (cond x (nameIn b others n) (cond y (nameIn a records m) (cond (lower (nameIn b others n) (nameIn a records m)) (nameIn b others n) (nameIn a records m))))
       go true true p q e = absurd (true≢false e)
       go true false p q e = (λ i. lesser (namedBy a records (eqb-true m 0 p i)) (namedBy b others n)) ∙ named-some b others n (eqb-false n 0 q)
       go false true p q e = λ i. lesser (named-some a records m (eqb-false m 0 p) i) (namedBy b others (eqb-true n 0 q i))
-      go false false p q e = (λ i. lesser (named-some a records m (eqb-false m 0 p) i) (named-some b others n (eqb-false n 0 q) i)) ∙ some-cond (lower (nameAt b others n) (nameAt a records m)) (nameAt b others n) (nameAt a records m)
+      go false false p q e = (λ i. lesser (named-some a records m (eqb-false m 0 p) i) (named-some b others n (eqb-false n 0 q) i)) ∙ some-cond (lower (nameIn b others n) (nameIn a records m)) (nameIn b others n) (nameIn a records m)
 
   lesser-neither : (eqb m 0 && eqb n 0) ≡ true → lesser (namedBy a records m) (namedBy b others n) ≡ none
   lesser-neither e = λ i. lesser (namedBy a records (eqb-true m 0 (and-left (eqb m 0) (eqb n 0) e) i)) (namedBy b others (eqb-true n 0 (and-right (eqb m 0) (eqb n 0) e) i))
 
--- ---- the key held
+-- ---- the numbers of a key
 
--- by the name and the count that the code works out
-pub key-held : (lt : Bytes) (lr : List ℕ) (lc : ℕ) (lx : List Float) (rt : Bytes) (rr : List ℕ) (rc : ℕ) (rx : List Float) (p q : Place) (v : Bytes) (n : ℕ)
-    → q ≡ heldIn lc rc p
-    → v ≡ keyAt (rowsAt lt lr rt rr q) .name
-    → n ≡ keyAt (rowsAt lt lr rt rr q) .nth
-    → nthOf v n ≡ keyIn (rowsIn lt lr lx lc) (rowsIn rt rr rx rc) p
-key-held lt lr lc lx rt rr rc rx p q v n e f g = (λ i. nthOf (f i) (g i)) ∙ ap (λ (x : Place). keyAt (rowsAt lt lr rt rr x)) e ∙ go p
+-- whether either scene has it shows in its nth
+absent-nth : (x y : List Told) (n : ℕ) → numbersBy (length x) (length y) (suc n) .nth ≡ 0 → (isFound x || isFound y) ≡ false
+absent-nth [] [] n h = refl
+absent-nth [] (u ∷ y) n h = absurd (omega arith)
+absent-nth (t ∷ x) y n h = absurd (omega arith)
+
+present-nth : (x y : List Told) (n : ℕ) → (numbersBy (length x) (length y) (suc n) .nth ≡ 0 → ⊥) → (isFound x || isFound y) ≡ true
+present-nth [] [] n h = absurd (h refl)
+present-nth [] (u ∷ y) n h = refl
+present-nth (t ∷ x) y n h = refl
+
+-- a key that is found has fewer above it than there are
+above-fits : (t : Bytes) (r : List ℕ) (w : Bytes) (up m : ℕ) → m ≡ length (found (nthOf w (suc up)) (sceneRows t r [])) → (m ≡ 0 → ⊥) → up < length r / width
+above-fits t r w up m q h = omega (arith, found-most (nthOf w (suc up)) (sceneRows t r []) (go (found (nthOf w (suc up)) (sceneRows t r [])) q) .1, times-most t r w [] (length r / width))
   where
-    bare : (t : Bytes) (r : List ℕ) (xs : List Float) (c k : ℕ) → keyAt (rowsIn t r [] (cond (leb k c) k 0)) ≡ keyOf (rowsIn t r xs c) k
-    bare t r xs c k = key-reals t r [] xs (cond (leb k c) k 0) ∙ sym (ap keyAt (from-within t r xs k c))
+    go : (d : List Told) → m ≡ length d → isFound d ≡ true
+    go [] e = absurd (h e)
+    go (x ∷ d) e = refl
 
-    go : (p : Place) → keyAt (rowsAt lt lr rt rr (heldIn lc rc p)) ≡ keyIn (rowsIn lt lr lx lc) (rowsIn rt rr rx rc) p
-    go (on.Left k) = bare lt lr lx lc k
-    go (on.Right k) = bare rt rr rx rc k
+module _ (lt : Bytes) (lr : List ℕ) (rt : Bytes) (rr : List ℕ) where
+  abbrev named-left : List Told
+  named-left = sceneRows lt lr []
 
--- ---- what a key comes to
+  abbrev named-right : List Told
+  named-right = sceneRows rt rr []
 
-module _ (lt : Bytes) (lr : List ℕ) (lc : ℕ) (lx : List Float) (rt : Bytes) (rr : List ℕ) (rc : ℕ) (rx : List Float) where
-  abbrev l : List Told
-  l = rowsIn lt lr lx lc
+  module _ (w : Bytes) (up m n : ℕ) (p : m ≡ length (found (nthOf w (suc up)) named-left)) (q : n ≡ length (found (nthOf w (suc up)) named-right)) where
+    pub at-none : (eqb m 0 && eqb n 0) ≡ true → numbersBy 0 0 0 ≡ numbersOf named-left named-right (nthOf w (suc up))
+    at-none e = (λ i. numbersBy (sym (eqb-true m 0 (and-left (eqb m 0) (eqb n 0) e)) i) (sym (eqb-true n 0 (and-right (eqb m 0) (eqb n 0) e)) i) (suc up)) ∙ (λ i. numbersBy (p i) (q i) (suc up))
 
-  abbrev r : List Told
-  r = rowsIn rt rr rx rc
+    module _ (e : (eqb m 0 && eqb n 0) ≡ false) where
+      pub at-some : record { left = m; right = n; nth = up + 1 } ≡ numbersOf named-left named-right (nthOf w (suc up))
+      at-some = go m n e ∙ (λ i. numbersBy (p i) (q i) (more i))
+        where
+          more : up + 1 ≡ suc up
+          more = omega arith
 
-  module _ (w : Bytes) (up m n : ℕ) (p : m ≡ length (found (nthOf w (suc up)) (rowsIn lt lr [] lc))) (q : n ≡ length (found (nthOf w (suc up)) (rowsIn rt rr [] rc))) where
-    abbrev j : Key
-    j = nthOf w (suc up)
+          go : (m n : ℕ) → (eqb m 0 && eqb n 0) ≡ false → _≡_ {A = Numbers} (record { left = m; right = n; nth = up + 1 }) (numbersBy m n (up + 1))
+          go zero zero h = absurd (true≢false h)
+          go zero (suc n) h = refl
+          go (suc m) n h = refl
 
-    more : up + 1 ≡ suc up
-    more = omega arith
-
-    -- by where each scene has the key
-    abbrev by : (inLeft inRight : List Told) → Step
-    by x y = stepIn (stateAt l r x y) (placeIn x y) (suc up)
-
-    pub at-none : m ≡ 0 → n ≡ 0 → step.End ≡ stepAt l r j
-    at-none e f = λ i. by (sym (missing lt lr lx lc j m p e) i) (sym (missing rt rr rx rc j n q f) i)
-
-    pub at-right : m ≡ 0 → (n ≡ 0 → ⊥) → step.Line (on.Right n) (up + 1) is.OnlyRight ≡ stepAt l r j
-    at-right e f =
-        let h = held rt rr rx rc j n q f in
-        (λ i. step.Line (on.Right (h .number i)) (more i) is.OnlyRight) ∙ (λ i. by (sym (missing lt lr lx lc j m p e) i) (sym (h .leads) i))
-
-    module _ (e : m ≡ 0 → ⊥) where
-      in-left : Held lt lr lx lc j m
-      in-left = held lt lr lx lc j m p e
-
-      pub at-left : n ≡ 0 → step.Line (on.Left m) (up + 1) is.OnlyLeft ≡ stepAt l r j
-      at-left f = (λ i. step.Line (on.Left (in-left .number i)) (more i) is.OnlyLeft) ∙ (λ i. by (sym (in-left .leads) i) (sym (missing rt rr rx rc j n q f) i))
-
-      module _ (f : n ≡ 0 → ⊥) (s : Bool) (g : s ≡ sameContent (contentOf l (tells lt lx (recordIn lr m))) (contentOf r (tells rt rx (recordIn rr n)))) where
-        at-both : stepIn (cond s alike changed) (on.Left m) (up + 1) ≡ stepAt l r j
-        at-both =
-            let h = held rt rr rx rc j n q f in
-            (λ i. stepIn (cond (g i) alike changed) (on.Left (in-left .number i)) (more i)) ∙ (λ i. by (sym (in-left .leads) i) (sym (h .leads) i))
-
-        pub at-same : s ≡ true → step.Same (on.Left m) ≡ stepAt l r j
-        at-same h = ap (λ (b : Bool). stepIn (cond b alike changed) (on.Left m) (up + 1)) (sym h) ∙ at-both
-
-        pub at-changed : s ≡ false → step.Line (on.Left m) (up + 1) is.Changed ≡ stepAt l r j
-        at-changed h = ap (λ (b : Bool). stepIn (cond b alike changed) (on.Left m) (up + 1)) (sym h) ∙ at-both
+      pub at-fits : up < length lr / width + length rr / width
+      at-fits = go (eqb m 0) refl
+        where
+          go : (b : Bool) → eqb m 0 ≡ b → up < length lr / width + length rr / width
+          go true f = omega (arith, above-fits rt rr w up n q (eqb-false n 0 (ap (λ (b : Bool). b && eqb n 0) (sym f) ∙ e)))
+          go false f = omega (arith, above-fits lt lr w up m p (eqb-false m 0 f))
 
   -- ---- the least name above another
 
-  module _ (w : Bytes) (m n : ℕ) (a : LeastIn lt lr lc w m) (b : LeastIn rt rr rc w n) where
-    abbrev least : Option Bytes
-    least = lesser (leastAbove w l) (leastAbove w r)
+  module _ (w : Bytes) (m n : ℕ) (a : namedBy lt lr m ≡ leastAbove w named-left) (b : namedBy rt rr n ≡ leastAbove w named-right) where
+    least-of : firstOf (lesser (namedBy lt lr m) (namedBy rt rr n)) ≡ nextName named-left named-right w
+    least-of = λ i. firstOf (lesser (a i) (b i))
 
-    least-of : lesser (namedBy lt lr m) (namedBy rt rr n) ≡ least
-    least-of = λ i. lesser ((a .named ∙ least-reals lt lr w [] lx lc) i) ((b .named ∙ least-reals rt rr w [] rx rc) i)
+    pub name-none : (eqb m 0 && eqb n 0) ≡ true → numbersBy 0 0 0 ≡ firstNumbers named-left named-right w
+    name-none e = ap (numbersFor named-left named-right) (sym (ap firstOf (lesser-neither lt lr m rt rr n e)) ∙ least-of)
 
-    -- what the first key of that name comes to
-    pub name-some : (eqb m 0 && eqb n 0) ≡ false → (v : Bytes) (s : Step) → v ≡ lesserOf lt lr m rt rr n → s ≡ stepAt l r (nthOf v 1) → s ≡ stepFor l r (firstOf least)
-    name-some e v s g h = h ∙ (λ i. stepAt l r (nthOf (g i) 1)) ∙ sym (ap (λ (o : Option Bytes). stepFor l r (firstOf o)) (sym least-of ∙ lesser-some lt lr m rt rr n e))
-
-    pub name-none : (eqb m 0 && eqb n 0) ≡ true → step.End ≡ stepFor l r (firstOf least)
-    name-none e = sym (ap (λ (o : Option Bytes). stepFor l r (firstOf o)) (sym least-of ∙ lesser-neither lt lr m rt rr n e))
+    pub name-some : (eqb m 0 && eqb n 0) ≡ false → (v : Bytes) (x : Numbers) → v ≡ lesserOf lt lr m rt rr n → x ≡ numbersOf named-left named-right (nthOf v 1) → x ≡ firstNumbers named-left named-right w
+    name-some e v x g h = h ∙ (λ i. numbersOf named-left named-right (nthOf (g i) 1)) ∙ ap (numbersFor named-left named-right) (sym (ap firstOf (lesser-some lt lr m rt rr n e)) ∙ least-of)
 
 -- ---- the key that follows
+
+module _ (l r : List Told) (k : Key) (at : Numbers) (e : at ≡ numbersOf l r (oneMore k)) where
+  follows : (b : Bool) → (isFound (found (oneMore k) l) || isFound (found (oneMore k) r)) ≡ b → nextKey l r k ≡ cond b (some (oneMore k)) (nextName l r (k .name))
+  unfolding nextKey
+  follows b h = ap (λ (c : Bool). cond c (some (oneMore k)) (nextName l r (k .name))) h
+
+  pub follows-some : (at .nth ≡ 0 → ⊥) → at ≡ numbersAfter l r k
+  follows-some h = e ∙ sym (ap (numbersFor l r) (follows true (present-nth (found (oneMore k) l) (found (oneMore k) r) (k .nth) (λ z. h (ap (λ (a : Numbers). a .nth) e ∙ z)))))
+
+  pub follows-none : at .nth ≡ 0 → (x : Numbers) → x ≡ firstNumbers l r (k .name) → x ≡ numbersAfter l r k
+  follows-none h x q = q ∙ sym (ap (numbersFor l r) (follows false (absent-nth (found (oneMore k) l) (found (oneMore k) r) (k .nth) (sym (ap (λ (a : Numbers). a .nth) e) ∙ h))))
+
+-- by the name and the nth of the key held
+pub follows-held : (l r : List Told) (p q : Place) (v : Bytes) (n : ℕ) (x : Numbers) → p ≡ q → v ≡ keyIn l r q .name → n ≡ keyIn l r q .nth → x ≡ numbersAfter l r (nthOf v n) → x ≡ nextNumbers l r p
+follows-held l r p q v n x e f g h = h ∙ (λ i. numbersAfter l r (nthOf (f i) (g i))) ∙ sym (ap (nextNumbers l r) e)
+
+-- ---- what a key comes to, by its numbers
+
+module _ (m n k : ℕ) (s : Bool) where
+  abbrev by : Step
+  by = stepIn (stateBy m n s) (placeBy m n) k
+
+  pub by-none : m ≡ 0 → n ≡ 0 → step.End ≡ by
+  by-none e f = λ i. stepIn (stateBy (sym e i) (sym f i) s) (placeBy (sym e i) (sym f i)) k
+
+  pub by-right : m ≡ 0 → (n ≡ 0 → ⊥) → step.Line (on.Right n) k is.OnlyRight ≡ by
+  by-right e f = go n f ∙ (λ i. stepIn (stateBy (sym e i) n s) (placeBy (sym e i) n) k)
+    where
+      go : (n : ℕ) → (n ≡ 0 → ⊥) → step.Line (on.Right n) k is.OnlyRight ≡ stepIn (stateBy 0 n s) (placeBy 0 n) k
+      go zero f = absurd (f refl)
+      go (suc n) f = refl
+
+  module _ (e : m ≡ 0 → ⊥) where
+    pub by-left : n ≡ 0 → step.Line (on.Left m) k is.OnlyLeft ≡ by
+    by-left f = go m e ∙ (λ i. stepIn (stateBy m (sym f i) s) (placeBy m (sym f i)) k)
+      where
+        go : (m : ℕ) → (m ≡ 0 → ⊥) → step.Line (on.Left m) k is.OnlyLeft ≡ stepIn (stateBy m 0 s) (placeBy m 0) k
+        go zero e = absurd (e refl)
+        go (suc m) e = refl
+
+    module _ (f : n ≡ 0 → ⊥) where
+      by-both : stepIn (cond s alike changed) (on.Left m) k ≡ by
+      by-both = go m n e f
+        where
+          go : (m n : ℕ) → (m ≡ 0 → ⊥) → (n ≡ 0 → ⊥) → stepIn (cond s alike changed) (on.Left m) k ≡ stepIn (stateBy m n s) (placeBy m n) k
+          go zero n e f = absurd (e refl)
+          go (suc m) zero e f = absurd (f refl)
+          go (suc m) (suc n) e f = refl
+
+      pub by-same : s ≡ true → step.Same (on.Left m) ≡ by
+      by-same h = ap (λ (b : Bool). stepIn (cond b alike changed) (on.Left m) k) (sym h) ∙ by-both
+
+      pub by-changed : s ≡ false → step.Line (on.Left m) k is.Changed ≡ by
+      by-changed h = ap (λ (b : Bool). stepIn (cond b alike changed) (on.Left m) k) (sym h) ∙ by-both
+
+-- ---- the step to the next key: its numbers go by the names alone, what it comes to by the reals too
+
+counted : (x y : List Told) → length x ≡ length y → isFound x ≡ isFound y
+counted [] [] h = refl
+counted [] (u ∷ y) h = absurd (omega arith)
+counted (t ∷ x) [] h = absurd (omega arith)
+counted (t ∷ x) (u ∷ y) h = refl
+
+found-bare : (t : Bytes) (r : List ℕ) (xs : List Float) (k : Key) → isFound (found k (sceneRows t r xs)) ≡ isFound (found k (sceneRows t r []))
+found-bare t r xs k = counted (found k (sceneRows t r xs)) (found k (sceneRows t r [])) (ap length (found-rows t r k xs [] (length r / width)) ∙ rows-count t r xs (length (found k (sceneRows t r []))))
+
+module _ (lt : Bytes) (lr : List ℕ) (lx : List Float) (rt : Bytes) (rr : List ℕ) (rx : List Float) where
+  abbrev l : List Told
+  l = sceneRows lt lr lx
+
+  abbrev r : List Told
+  r = sceneRows rt rr rx
+
+  next-bare : (p : Place) → nextKey l r (keyIn l r p) ≡ nextKey (sceneRows lt lr []) (sceneRows rt rr []) (keyIn (sceneRows lt lr []) (sceneRows rt rr []) p)
+  unfolding nextKey
+  next-bare p = keys (keyIn l r p) ∙ ap (nextKey (sceneRows lt lr []) (sceneRows rt rr [])) (key p)
+    where
+      key : (p : Place) → keyIn l r p ≡ keyIn (sceneRows lt lr []) (sceneRows rt rr []) p
+      key (on.Left n) = key-bare lt lr lx n
+      key (on.Right n) = key-bare rt rr rx n
+
+      keys : (k : Key) → nextKey l r k ≡ nextKey (sceneRows lt lr []) (sceneRows rt rr []) k
+      keys k = λ i. cond (found-bare lt lr lx (oneMore k) i || found-bare rt rr rx (oneMore k) i) (some (oneMore k)) (firstOf (lesser (least-reals lt lr (k .name) lx [] (length lr / width) i) (least-reals rt rr (k .name) rx [] (length rr / width) i)))
+
+  numbers-step : (m n k : ℕ) (s : Bool) → s ≡ sameContent (contentIn lt lr lx (numbersBy m n k .left)) (contentIn rt rr rx (numbersBy m n k .right)) → stepBy (numbersBy m n k) s ≡ stepIn (stateAt l r (rowsIn lt lr lx m) (rowsIn rt rr rx n)) (placeBy (length (rowsIn lt lr lx m)) (length (rowsIn rt rr rx n))) k
+  unfolding rowsIn
+  numbers-step zero zero k s h = refl
+  numbers-step zero (suc n) k s h = ap (λ (j : ℕ). step.Line (on.Right (suc j)) k is.OnlyRight) (sym (rows-count rt rr rx n))
+  numbers-step (suc m) zero k s h = ap (λ (j : ℕ). step.Line (on.Left (suc j)) k is.OnlyLeft) (sym (rows-count lt lr lx m))
+  numbers-step (suc m) (suc n) k s h = λ i. stepIn (cond (h i) alike changed) (on.Left (suc (sym (rows-count lt lr lx m) i))) k
+
+  pub step-next : (p : Place) (at : Numbers) → at ≡ nextNumbers (sceneRows lt lr []) (sceneRows rt rr []) p → (s : Bool) → s ≡ sameContent (contentIn lt lr lx (at .left)) (contentIn rt rr rx (at .right)) → (x : Step) → x ≡ stepBy at s → x ≡ nextStep l r p
+  step-next p at e s h x q = q ∙ go (nextKey (sceneRows lt lr []) (sceneRows rt rr []) (keyIn (sceneRows lt lr []) (sceneRows rt rr []) p)) e ∙ sym (ap (stepFor l r) (next-bare p))
+    where
+      go : (o : Option Key) → at ≡ numbersFor (sceneRows lt lr []) (sceneRows rt rr []) o → stepBy at s ≡ stepFor l r o
+      go none e = ap (λ (a : Numbers). stepBy a s) e
+      go (some k) e =
+          let m = length (found k (sceneRows lt lr [])) in
+          let n = length (found k (sceneRows rt rr [])) in
+          ap (λ (a : Numbers). stepBy a s) e
+          ∙ numbers-step m n (k .nth) s (h ∙ ap (λ (a : Numbers). sameContent (contentIn lt lr lx (a .left)) (contentIn rt rr rx (a .right))) e)
+          ∙ (λ i. stepIn (stateAt l r (sym (found-rows lt lr k lx [] (length lr / width)) i) (sym (found-rows rt rr k rx [] (length rr / width)) i)) (placeBy (length (sym (found-rows lt lr k lx [] (length lr / width)) i)) (length (sym (found-rows rt rr k rx [] (length rr / width)) i))) (k .nth))
+
+-- ---- the line of a key
 
 -- the answer that a line of a key gives
 abbrev lineIn : Step → Next
@@ -212,37 +268,20 @@ module _ (l r : List Told) where
   comes-found : (k : Key) → comes (stepAt l r k) ≡ (isFound (found k l) || isFound (found k r))
   comes-found k = go (found k l) (found k r)
     where
-      go : (x y : List Told) → comes (stepIn (stateAt l r x y) (placeIn x y) (k .nth)) ≡ (isFound x || isFound y)
+      go : (x y : List Told) → comes (stepIn (stateAt l r x y) (placeBy (length x) (length y)) (k .nth)) ≡ (isFound x || isFound y)
       go [] [] = refl
       go (t ∷ x) [] = refl
       go [] (u ∷ y) = refl
-      go (t ∷ x) (u ∷ y) = cond-elim (λ (s : State). comes (stepIn s (placeIn (t ∷ x) (u ∷ y)) (k .nth)) ≡ true) (sameContent (contentOf l t) (contentOf r u)) refl refl
+      go (t ∷ x) (u ∷ y) = cond-elim (λ (s : State). comes (stepIn s (placeBy (length (t ∷ x)) (length (u ∷ y))) (k .nth)) ≡ true) (sameContent (contentOf l t) (contentOf r u)) refl refl
 
   -- and then its place has that key
   placed : (k : Key) → comes (stepAt l r k) ≡ true → keyIn l r (placeOf l r k) ≡ k
   placed k e = go (found k l) (found k r) refl refl (sym (comes-found k) ∙ e)
     where
-      go : (x y : List Told) → found k l ≡ x → found k r ≡ y → (isFound x || isFound y) ≡ true → keyIn l r (placeIn x y) ≡ k
+      go : (x y : List Told) → found k l ≡ x → found k r ≡ y → (isFound x || isFound y) ≡ true → keyIn l r (placeBy (length x) (length y)) ≡ k
       go [] [] p q e = absurd (false≢true e)
       go [] (u ∷ y) p q e = let h = found-from k r u y q in ap keyAt (h .0) ∙ h .1
       go (t ∷ x) y p q e = let h = found-from k l t x p in ap keyAt (h .0) ∙ h .1
-
-  abbrev other : Key → Option Key
-  other k = firstOf (lesser (leastAbove (k .name) l) (leastAbove (k .name) r))
-
-  module _ (k : Key) (s : Step) (e : s ≡ stepAt l r (oneMore k)) where
-    follows : nextKey l r k ≡ cond (comes s) (some (oneMore k)) (other k)
-    unfolding nextKey
-    follows = ap (λ (b : Bool). cond b (some (oneMore k)) (other k)) (sym (comes-found (oneMore k)) ∙ ap comes (sym e))
-
-    pub follows-some : comes s ≡ true → s ≡ stepFor l r (nextKey l r k)
-    follows-some h = e ∙ sym (ap (stepFor l r) (follows ∙ ap (λ (b : Bool). cond b (some (oneMore k)) (other k)) h))
-
-    pub follows-none : s ≡ step.End → (t : Step) → t ≡ stepFor l r (other k) → t ≡ stepFor l r (nextKey l r k)
-    follows-none h t g = g ∙ sym (ap (stepFor l r) (follows ∙ ap (λ (x : Step). cond (comes x) (some (oneMore k)) (other k)) h))
-
-  pub follows-key : (i k : Key) (s : Step) → i ≡ k → s ≡ stepFor l r (nextKey l r i) → s ≡ stepFor l r (nextKey l r k)
-  follows-key i k s e h = h ∙ ap (λ (j : Key). stepFor l r (nextKey l r j)) e
 
   -- ---- the lines
 
@@ -263,25 +302,25 @@ module _ (l r : List Told) where
     next-comes i e = comes-found i ∙ sym (keys-stand l r i) ∙ next-stands l r k i e
 
     -- no next key: no line
-    pub answer-none : step.End ≡ stepFor l r (nextKey l r k) → next.End ≡ nextLine l r k
+    pub answer-none : step.End ≡ stepFor l r (nextKey l r k) → next.End ≡ firstLine l r (linesAfter l r k)
     answer-none e = go (nextKey l r k) refl e
       where
-        go : (o : Option Key) → nextKey l r k ≡ o → step.End ≡ stepFor l r o → next.End ≡ nextLine l r k
+        go : (o : Option Key) → nextKey l r k ≡ o → step.End ≡ stepFor l r o → next.End ≡ firstLine l r (linesAfter l r k)
         go none q e = sym (ap (firstLine l r) (lines-none q))
         go (some i) q e = absurd (false≢true (ap comes e ∙ next-comes i q))
 
     -- its line is the first one
-    answer-state : (p : Place) (n : ℕ) (s : CodeState) (i : Key) (x : State) → nextKey l r k ≡ some i → stateOf l r i ≡ x → step.Line p n s ≡ stepIn x (placeOf l r i) (i .nth) → next.Line p n s ≡ nextLine l r k
+    answer-state : (p : Place) (n : ℕ) (s : CodeState) (i : Key) (x : State) → nextKey l r k ≡ some i → stateOf l r i ≡ x → step.Line p n s ≡ stepIn x (placeOf l r i) (i .nth) → next.Line p n s ≡ firstLine l r (linesAfter l r k)
     answer-state p n s i absent q f e = let z : _≡_ {A = ℕ} 0 1 = cc in absurd (omega arith)
     answer-state p n s i alike q f e = let z : _≡_ {A = ℕ} 0 1 = cc in absurd (omega arith)
     answer-state p n s i left q f e = ap lineIn e ∙ sym (ap (firstLine l r) (lines-some i left q f))
     answer-state p n s i right q f e = ap lineIn e ∙ sym (ap (firstLine l r) (lines-some i right q f))
     answer-state p n s i changed q f e = ap lineIn e ∙ sym (ap (firstLine l r) (lines-some i changed q f))
 
-    pub answer-line : (p : Place) (n : ℕ) (s : CodeState) → step.Line p n s ≡ stepFor l r (nextKey l r k) → next.Line p n s ≡ nextLine l r k
+    pub answer-line : (p : Place) (n : ℕ) (s : CodeState) → step.Line p n s ≡ stepFor l r (nextKey l r k) → next.Line p n s ≡ firstLine l r (linesAfter l r k)
     answer-line p n s e = go (nextKey l r k) refl e
       where
-        go : (o : Option Key) → nextKey l r k ≡ o → step.Line p n s ≡ stepFor l r o → next.Line p n s ≡ nextLine l r k
+        go : (o : Option Key) → nextKey l r k ≡ o → step.Line p n s ≡ stepFor l r o → next.Line p n s ≡ firstLine l r (linesAfter l r k)
         go none q e = let z : _≡_ {A = ℕ} 0 1 = cc in absurd (omega arith)
         go (some i) q e = answer-state p n s i (stateOf l r i) q refl e
 
@@ -335,7 +374,7 @@ module _ (l r : List Told) where
       go none q ih = subst Heads (sym (lines-none k q)) over
       go (some i) q ih = subst Heads (sym (lines-some k i (stateOf l r i) q refl)) (line-of i (stateOf l r i) q refl (ih i (omega (arith, after-some k i q))))
 
-  module _ (f : Place → Next) (h : (p : Place) → f p ≡ nextLine l r (keyIn l r p)) where
+  module _ (f : Place → Next) (h : (p : Place) → f p ≡ nextLine l r p) where
     handed-after : (n : ℕ) (p : Place) → length (linesAfter l r (keyIn l r p)) ≤ n → handed l r f n p ≡ linesAfter l r (keyIn l r p)
     unfolding handed
     handed-after zero p b = empty (linesAfter l r (keyIn l r p)) b

@@ -1,15 +1,4 @@
-pub mod OrderLaws
-pub mod KeyLaws
-pub mod NumberLaws
 pub mod CompareLaws
-pub mod RowsLaws
-pub mod NameLaws
 pub mod RenumberLaws
-pub mod PartLaws
 pub mod ExchangeLaws
-pub mod LeastLaws
-pub mod NextLaws
-pub mod ScanLaws
-pub mod ContentLaws
 pub mod HandLaws
-pub mod BothLaws

@@ -1,34 +1,9 @@
 -- "For each key in either scene the tool says only left, only right, changed or same".
-use mathlib.Core.Bool.{Bool, true, false, cond, _&&_}
+use mathlib.Core.Bool.{cond}
 use mathlib.Core.List.{List, [], _∷_}
-use Prim.Native.Nat.{ℕ}
-use lib.Dec.{eqb}
-use lib.Ieee.{Float}
-use Rattle.bits.specs.Bits.{sameReals}
-use Rattle.laws.specs.Bytes.{Bytes, same}
+use Rattle.content.specs.Content.{contentOf, sameContent}
+use Rattle.keys.specs.Key.{Key, found, keysOf}
 use Rattle.scene.specs.Told.{Told}
-use Rattle.comparison.specs.Key.{Key, found, keyOf, keysOf, sameKey}
-
--- what a primitive is: its type, strings and reals, and the keys of its alias target and its modifier
-pub record Content : Type 0 where
-  pub type : ℕ
-  pub strings : List Bytes
-  pub reals : List Float
-  pub alias : Key
-  pub modifier : Key
-
-abbrev pub contentOf : (all : List Told) → Told → Content
-contentOf all t = record { type = t .type; strings = t .strings; reals = t .reals; alias = keyOf all (t .target); modifier = keyOf all (t .modifier) }
-
-unfoldable pub sameWords : List Bytes → List Bytes → Bool
-sameWords [] [] = true
-sameWords [] (y ∷ ys) = false
-sameWords (x ∷ xs) [] = false
-sameWords (x ∷ xs) (y ∷ ys) = same x y && sameWords xs ys
-
--- "same means equal type, strings, real bits, alias key and modifier key"
-unfoldable pub sameContent : Content → Content → Bool
-sameContent a b = eqb (a .type) (b .type) && sameWords (a .strings) (b .strings) && sameReals (a .reals) (b .reals) && sameKey (a .alias) (b .alias) && sameKey (a .modifier) (b .modifier)
 
 pub data State : Type 0 where
   absent left right changed alike : State

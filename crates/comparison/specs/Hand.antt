@@ -1,18 +1,18 @@
 -- "Lines go out one by one in key order": what comes after a key, as the code hands it out.
-use mathlib.Core.Bool.{cond}
+use mathlib.Core.Bool.{Bool, cond}
 use mathlib.Core.List.{List, [], _∷_}
 use mathlib.Core.Option.{Option, none, some}
 use Prim.Native.Nat.{ℕ, zero, suc}
-use lib.Dec.{eqb, leb}
+use lib.Dec.{eqb}
 use lib.ListN.{length}
+use Rattle.keys.specs.Key.{Key, keyOf, keysOf, found, lower}
+use Rattle.keys.specs.Next.{after, nextName, nextKey}
 use Rattle.laws.specs.Bytes.{Bytes}
+use Rattle.scene.specs.Record.{nameIn}
 use Rattle.scene.specs.Told.{Told}
 use Rattle.comparison.specs.Compare.{State, absent, left, right, changed, alike, stateOf, Line, linesFor}
-use Rattle.comparison.specs.Key.{Key, keyOf, keysOf, found, lower}
-use Rattle.comparison.specs.Next.{after}
-use Rattle.comparison.specs.Rows.{rowsIn}
-use Rattle.comparison.specs.Scan.{nameAt}
 use Rattle.comparison.specs.declared.Next.{Next}
+use Rattle.comparison.specs.declared.Numbers.{Numbers}
 use Rattle.comparison.specs.declared.Place.{Place}
 use Rattle.comparison.specs.declared.State.{State as CodeState}
 use Rattle.comparison.specs.declared.Step.{Step}
@@ -26,31 +26,58 @@ abbrev pub keyIn : (l r : List Told) → Place → Key
 keyIn l r (on.Left n) = keyOf l n
 keyIn l r (on.Right n) = keyOf r n
 
--- a place, of which a number above its scene's count stands for no primitive
-abbrev pub heldIn : (m n : ℕ) → Place → Place
-heldIn m n (on.Left k) = on.Left (cond (leb k m) k 0)
-heldIn m n (on.Right k) = on.Right (cond (leb k n) k 0)
-
--- the rows from a place's number on; names need no reals
-abbrev pub rowsAt : Bytes → List ℕ → Bytes → List ℕ → Place → List Told
-rowsAt a records b others (on.Left n) = rowsIn a records [] n
-rowsAt a records b others (on.Right n) = rowsIn b others [] n
-
--- by what was found in each scene: the left one's number, or else the right one's; a number is how many stand from it on
-abbrev pub placeIn : (inLeft inRight : List Told) → Place
-placeIn [] y = on.Right (length y)
-placeIn (t ∷ x) y = on.Left (length (t ∷ x))
-
--- the number of a key: in the left scene where that has it, else in the right one
-abbrev pub placeOf : (l r : List Told) → Key → Place
-placeOf l r k = placeIn (found k l) (found k r)
+-- ---- the key that follows, by its numbers
 
 -- of the names of numbers m and n, the lesser; the other where one is 0
 unfoldable pub lesserOf : Bytes → List ℕ → (m : ℕ) → Bytes → List ℕ → (n : ℕ) → Bytes
 lesserOf a records m b others n =
-    let first = nameAt a records m in
-    let second = nameAt b others n in
+    let first = nameIn a records m in
+    let second = nameIn b others n in
     cond (eqb m 0) second (cond (eqb n 0) first (cond (lower second first) second first))
+
+-- the numbers of a key in both scenes, and its nth; all 0 where neither has it
+abbrev pub numbersBy : (m n nth : ℕ) → Numbers
+numbersBy zero zero k = record { left = 0; right = 0; nth = 0 }
+numbersBy zero (suc n) k = record { left = 0; right = suc n; nth = k }
+numbersBy (suc m) n k = record { left = suc m; right = n; nth = k }
+
+-- a number is how many stand from it on
+abbrev pub numbersOf : (l r : List Told) → Key → Numbers
+numbersOf l r k = numbersBy (length (found k l)) (length (found k r)) (k .nth)
+
+-- those of the key looked for, where there is one
+abbrev pub numbersFor : (l r : List Told) → Option Key → Numbers
+numbersFor l r none = numbersBy 0 0 0
+numbersFor l r (some k) = numbersOf l r k
+
+-- those of the first key of the least name above w
+abbrev pub firstNumbers : (l r : List Told) → Bytes → Numbers
+firstNumbers l r w = numbersFor l r (nextName l r w)
+
+-- those of the key that follows k, and of the one that follows the key held
+abbrev pub numbersAfter : (l r : List Told) → Key → Numbers
+numbersAfter l r k = numbersFor l r (nextKey l r k)
+
+abbrev pub nextNumbers : (l r : List Told) → Place → Numbers
+nextNumbers l r p = numbersAfter l r (keyIn l r p)
+
+-- ---- what a key comes to
+
+-- by its numbers in both scenes: the left one, or else the right one
+abbrev pub placeBy : (m n : ℕ) → Place
+placeBy zero n = on.Right n
+placeBy (suc m) n = on.Left (suc m)
+
+-- by them, and by whether its primitives are the same where both scenes have it
+abbrev pub stateBy : (m n : ℕ) → (same : Bool) → State
+stateBy zero zero s = absent
+stateBy zero (suc n) s = right
+stateBy (suc m) zero s = left
+stateBy (suc m) (suc n) s = cond s alike changed
+
+-- the number of a key: in the left scene where that has it, else in the right one
+abbrev pub placeOf : (l r : List Told) → Key → Place
+placeOf l r k = placeBy (length (found k l)) (length (found k r))
 
 -- what a key in a state comes to, with its number and its nth
 abbrev pub stepIn : State → Place → (nth : ℕ) → Step
@@ -60,6 +87,10 @@ stepIn left p n = step.Line p n is.OnlyLeft
 stepIn right p n = step.Line p n is.OnlyRight
 stepIn changed p n = step.Line p n is.Changed
 
+-- what a key comes to, by its numbers and by whether its primitives are the same
+abbrev pub stepBy : Numbers → (same : Bool) → Step
+stepBy at s = stepIn (stateBy (at .left) (at .right) s) (placeBy (at .left) (at .right)) (at .nth)
+
 -- what a key comes to
 abbrev pub stepAt : (l r : List Told) → Key → Step
 stepAt l r k = stepIn (stateOf l r k) (placeOf l r k) (k .nth)
@@ -68,6 +99,12 @@ stepAt l r k = stepIn (stateOf l r k) (placeOf l r k) (k .nth)
 abbrev pub stepFor : (l r : List Told) → Option Key → Step
 stepFor l r none = step.End
 stepFor l r (some k) = stepAt l r k
+
+-- what the key comes to that follows the one held
+abbrev pub nextStep : (l r : List Told) → Place → Step
+nextStep l r p = stepFor l r (nextKey l r (keyIn l r p))
+
+-- ---- the lines
 
 -- the lines for what comes after a key
 abbrev pub linesAfter : (l r : List Told) → Key → List Line
@@ -86,9 +123,9 @@ abbrev pub firstLine : (l r : List Told) → List Line → Next
 firstLine l r [] = next.End
 firstLine l r (x ∷ xs) = answerIn (x .state) (placeOf l r (x .key)) (x .key .nth)
 
--- what is answered after a key: the first of the lines after it
-abbrev pub nextLine : (l r : List Told) → Key → Next
-nextLine l r k = firstLine l r (linesAfter l r k)
+-- what is answered after the key held: the first of the lines after it
+abbrev pub nextLine : (l r : List Told) → Place → Next
+nextLine l r p = firstLine l r (linesAfter l r (keyIn l r p))
 
 -- the state that an answer names
 abbrev pub stateIn : CodeState → State

@@ -1,28 +1,10 @@
-// Two saves compared, name by name.
-mod content;
-mod names;
-
+// Two saves compared, name by name. A table of records is lent up to its scene's last record: its length gives the count.
+ghost use mathlib.Core.List.{[]};
 ghost use mathlib.Core.Path.{_≡_};
 ghost use Prim.Native.Nat.{suc};
-ghost use Rattle.comparison.specs.Both.{ReadsBoth};
-ghost use Rattle.comparison.specs.Hand.{heldIn, keyIn, lesserOf, nextLine, rowsAt, stepAt, stepFor};
-ghost use Rattle.comparison.specs.Key.{keyAt};
-ghost use Rattle.comparison.specs.Next.{firstOf, leastAbove, lesser, nextKey};
-ghost use Rattle.comparison.specs.Rows.{rowsIn};
-ghost use Rattle.comparison.specs.Scan.{nthOf};
-use reader::Answer;
-
-// Which scene.
-pub enum Side {
-    Left,
-    Right,
-}
-
-// The counts of primitives and reals, left then right; or the scene refused, with the reader's reason and place.
-pub enum Both {
-    Read(usize, usize, usize, usize),
-    Refused(Side, u32, usize),
-}
+ghost use Rattle.keys.specs.Key.{nthOf};
+ghost use Rattle.keys.specs.Rows.{sceneRows};
+ghost use Rattle.comparison.specs.Hand.{firstNumbers, lesserOf, nextLine, nextNumbers, nextStep, numbersAfter, numbersOf, stepBy};
 
 // A primitive's number in one of both scenes. Number 0 stands before the first key.
 pub enum Place {
@@ -50,73 +32,38 @@ enum Step {
     Line(Place, usize, State),
 }
 
-// Reads both texts afresh, the left one first. A refusal leaves all four tables zero.
-pub fn read_both(
-    left: &[u8],
-    left_records: &mut [u32],
-    left_reals: &mut [f64],
-    right: &[u8],
-    right_records: &mut [u32],
-    right_reals: &mut [f64],
-) -> Both
-    ensures { λ r. ⌜ ReadsBoth (now (left .entry)) (now («left_records» .entry)) (now («left_reals» .entry)) (now (right .entry)) (now («right_records» .entry)) (now («right_reals» .entry)) r (now («left_records» .exit)) (now («left_reals» .exit)) (now («right_records» .exit)) (now («right_reals» .exit)) ⌝ }
-{
-    match reader::read(left, left_records, left_reals) {
-        Answer::Refused(reason, place) => {
-            table::clear(right_records, right_reals);
-            Both::Refused(Side::Left, reason, place)
-        }
-        Answer::Accepted(m, j) => match reader::read(right, right_records, right_reals) {
-            Answer::Refused(reason, place) => {
-                table::clear(left_records, left_reals);
-                Both::Refused(Side::Right, reason, place)
-            }
-            Answer::Accepted(n, k) => Both::Read(m, j, n, k),
-        },
-    }
+// A key's number in each scene, 0 where that has none, and its nth; all 0 where neither scene has it.
+struct Numbers {
+    left: usize,
+    right: usize,
+    nth: usize,
 }
 
-// What the key comes to that has a name and so many of that name above it.
+// The numbers of the key that has a name and so many of that name above it.
 fn at_key(
     left: &[u8],
     left_records: &[u32],
-    left_count: usize,
-    left_reals: &[f64],
     right: &[u8],
     right_records: &[u32],
-    right_count: usize,
-    right_reals: &[f64],
     name: &[u8],
     above: usize,
-) -> Step
-    ensures { λ answer. ⌜ (let l = rowsIn (now (left .entry)) (now («left_records» .entry)) (now («left_reals» .entry)) «left_count» in let r = rowsIn (now (right .entry)) (now («right_records» .entry)) (now («right_reals» .entry)) «right_count» in answer ≡ stepAt l r (nthOf (now (name .entry)) (suc above))) ⌝ }
+) -> Numbers
+    ensures { λ r. ⌜ r ≡ numbersOf (sceneRows (now (left .entry)) (now («left_records» .entry)) []) (sceneRows (now (right .entry)) (now («right_records» .entry)) []) (nthOf (now (name .entry)) (suc above)) ⌝ }
 {
-    let m = names::numbered(left, left_records, left_count, name, above);
-    let n = names::numbered(right, right_records, right_count, name, above);
-    if m == 0 {
-        if n == 0 {
-            return Step::End;
-        }
-        return Step::Line(Place::Right(n), above + 1, State::OnlyRight);
+    let m = keys::numbered(left, left_records, name, above);
+    let n = keys::numbered(right, right_records, name, above);
+    if (m == 0) & (n == 0) {
+        return Numbers {
+            left: 0,
+            right: 0,
+            nth: 0,
+        };
     }
-    if n == 0 {
-        return Step::Line(Place::Left(m), above + 1, State::OnlyLeft);
+    Numbers {
+        left: m,
+        right: n,
+        nth: above + 1,
     }
-    if content::same_content(
-        left,
-        left_records,
-        left_count,
-        left_reals,
-        m,
-        right,
-        right_records,
-        right_count,
-        right_reals,
-        n,
-    ) {
-        return Step::Same(Place::Left(m));
-    }
-    Step::Line(Place::Left(m), above + 1, State::Changed)
 }
 
 // Of the names of number m in the left scene and n in the right one, the lesser; the other where one is 0.
@@ -130,167 +77,125 @@ fn lesser<'a>(
 ) -> &'a [u8]
     ensures { λ r. ⌜ now r ≡ lesserOf (now (left .entry)) (now («left_records» .entry)) m (now (right .entry)) (now («right_records» .entry)) n ⌝ }
 {
-    let first = names::name_of(left, left_records, m);
-    let second = names::name_of(right, right_records, n);
+    let first = table::name_of(left, left_records, m);
+    let second = table::name_of(right, right_records, n);
     if m == 0 {
         return second;
     }
     if n == 0 {
         return first;
     }
-    if names::lower(second, first) {
+    if keys::lower(second, first) {
         return second;
     }
     first
 }
 
-// What the first key comes to of the least name above a name.
+// The numbers of the first key of the least name above a name.
 fn next_name<'a>(
     left: &'a [u8],
     left_records: &[u32],
-    left_count: usize,
-    left_reals: &[f64],
     right: &'a [u8],
     right_records: &[u32],
-    right_count: usize,
-    right_reals: &[f64],
     name: &[u8],
-) -> Step
-    ensures { λ answer. ⌜ (let l = rowsIn (now (left .entry)) (now («left_records» .entry)) (now («left_reals» .entry)) «left_count» in let r = rowsIn (now (right .entry)) (now («right_records» .entry)) (now («right_reals» .entry)) «right_count» in answer ≡ stepFor l r (firstOf (lesser (leastAbove (now (name .entry)) l) (leastAbove (now (name .entry)) r)))) ⌝ }
+) -> Numbers
+    ensures { λ r. ⌜ r ≡ firstNumbers (sceneRows (now (left .entry)) (now («left_records» .entry)) []) (sceneRows (now (right .entry)) (now («right_records» .entry)) []) (now (name .entry)) ⌝ }
 {
-    let m = names::least_above(left, left_records, left_count, name);
-    let n = names::least_above(right, right_records, right_count, name);
+    let m = keys::least_above(left, left_records, name);
+    let n = keys::least_above(right, right_records, name);
     if (m == 0) & (n == 0) {
-        return Step::End;
+        return Numbers {
+            left: 0,
+            right: 0,
+            nth: 0,
+        };
     }
-    at_key(
-        left,
-        left_records,
-        left_count,
-        left_reals,
-        right,
-        right_records,
-        right_count,
-        right_reals,
-        lesser(left, left_records, m, right, right_records, n),
-        0,
-    )
+    let least = lesser(left, left_records, m, right, right_records, n);
+    at_key(left, left_records, right, right_records, least, 0)
 }
 
-// What the key comes to that follows the nth of a name.
+// The numbers of the key that follows the nth of a name.
+fn after_key<'a>(
+    left: &'a [u8],
+    left_records: &[u32],
+    right: &'a [u8],
+    right_records: &[u32],
+    name: &[u8],
+    nth: usize,
+) -> Numbers
+    ensures { λ r. ⌜ r ≡ numbersAfter (sceneRows (now (left .entry)) (now («left_records» .entry)) []) (sceneRows (now (right .entry)) (now («right_records» .entry)) []) (nthOf (now (name .entry)) nth) ⌝ }
+{
+    let at = at_key(left, left_records, right, right_records, name, nth);
+    if at.nth == 0 {
+        return next_name(left, left_records, right, right_records, name);
+    }
+    at
+}
+
+// The numbers of the key that follows the one held.
 fn next_key<'a>(
     left: &'a [u8],
     left_records: &[u32],
-    left_count: usize,
-    left_reals: &[f64],
     right: &'a [u8],
     right_records: &[u32],
-    right_count: usize,
-    right_reals: &[f64],
-    name: &[u8],
-    nth: usize,
-) -> Step
-    ensures { λ answer. ⌜ (let l = rowsIn (now (left .entry)) (now («left_records» .entry)) (now («left_reals» .entry)) «left_count» in let r = rowsIn (now (right .entry)) (now («right_records» .entry)) (now («right_reals» .entry)) «right_count» in answer ≡ stepFor l r (nextKey l r (nthOf (now (name .entry)) nth))) ⌝ }
+    from: Place,
+) -> Numbers
+    ensures { λ r. ⌜ r ≡ nextNumbers (sceneRows (now (left .entry)) (now («left_records» .entry)) []) (sceneRows (now (right .entry)) (now («right_records» .entry)) []) from ⌝ }
 {
-    match at_key(
-        left,
-        left_records,
-        left_count,
-        left_reals,
-        right,
-        right_records,
-        right_count,
-        right_reals,
-        name,
-        nth,
-    ) {
-        Step::End => next_name(
-            left,
-            left_records,
-            left_count,
-            left_reals,
-            right,
-            right_records,
-            right_count,
-            right_reals,
-            name,
-        ),
-        Step::Same(p) => Step::Same(p),
-        Step::Line(p, n, s) => Step::Line(p, n, s),
+    match from {
+        Place::Left(n) => {
+            let name = keys::key_name(left, left_records, n);
+            let nth = keys::key_nth(left, left_records, n);
+            after_key(left, left_records, right, right_records, name, nth)
+        }
+        Place::Right(n) => {
+            let name = keys::key_name(right, right_records, n);
+            let nth = keys::key_nth(right, right_records, n);
+            after_key(left, left_records, right, right_records, name, nth)
+        }
     }
 }
 
-// A place, of which a number above its scene's count stands for no primitive.
-fn held(place: Place, left_count: usize, right_count: usize) -> Place
-    ensures { λ r. ⌜ r ≡ heldIn «left_count» «right_count» place ⌝ }
+// What a key comes to, by its numbers and by whether its primitives are the same; the latter matters only where both scenes
+// have it.
+fn step_of(at: Numbers, same: bool) -> Step
+    ensures { λ r. ⌜ r ≡ stepBy at same ⌝ }
 {
-    match place {
-        Place::Left(k) => Place::Left(names::within(k, left_count)),
-        Place::Right(k) => Place::Right(names::within(k, right_count)),
+    if at.left == 0 {
+        if at.right == 0 {
+            return Step::End;
+        }
+        return Step::Line(Place::Right(at.right), at.nth, State::OnlyRight);
     }
-}
-
-// The name in the key of a place.
-fn held_name<'a>(
-    left: &'a [u8],
-    left_records: &[u32],
-    right: &'a [u8],
-    right_records: &[u32],
-    place: Place,
-) -> &'a [u8]
-    ensures { λ r. ⌜ now r ≡ keyAt (rowsAt (now (left .entry)) (now («left_records» .entry)) (now (right .entry)) (now («right_records» .entry)) place) .name ⌝ }
-{
-    match place {
-        Place::Left(n) => names::key_name(left, left_records, n),
-        Place::Right(n) => names::key_name(right, right_records, n),
+    if at.right == 0 {
+        return Step::Line(Place::Left(at.left), at.nth, State::OnlyLeft);
     }
-}
-
-// Which definition of its name a place is, from 1; 0 for none.
-fn held_nth(
-    left: &[u8],
-    left_records: &[u32],
-    right: &[u8],
-    right_records: &[u32],
-    place: Place,
-) -> usize
-    ensures { λ r. ⌜ r ≡ keyAt (rowsAt (now (left .entry)) (now («left_records» .entry)) (now (right .entry)) (now («right_records» .entry)) place) .nth ⌝ }
-{
-    match place {
-        Place::Left(n) => names::key_nth(left, left_records, n),
-        Place::Right(n) => names::key_nth(right, right_records, n),
+    if same {
+        return Step::Same(Place::Left(at.left));
     }
+    Step::Line(Place::Left(at.left), at.nth, State::Changed)
 }
 
 // What the key comes to that follows the one held.
 fn next_step<'a>(
     left: &'a [u8],
     left_records: &[u32],
-    left_count: usize,
     left_reals: &[f64],
     right: &'a [u8],
     right_records: &[u32],
-    right_count: usize,
     right_reals: &[f64],
     from: Place,
 ) -> Step
-    ensures { λ answer. ⌜ (let l = rowsIn (now (left .entry)) (now («left_records» .entry)) (now («left_reals» .entry)) «left_count» in let r = rowsIn (now (right .entry)) (now («right_records» .entry)) (now («right_reals» .entry)) «right_count» in answer ≡ stepFor l r (nextKey l r (keyIn l r from))) ⌝ }
+    ensures { λ r. ⌜ r ≡ nextStep (sceneRows (now (left .entry)) (now («left_records» .entry)) (now («left_reals» .entry))) (sceneRows (now (right .entry)) (now («right_records» .entry)) (now («right_reals» .entry))) from ⌝ }
 {
-    let place = held(from, left_count, right_count);
-    let name = held_name(left, left_records, right, right_records, place);
-    let nth = held_nth(left, left_records, right, right_records, place);
-    next_key(
-        left,
-        left_records,
-        left_count,
-        left_reals,
-        right,
-        right_records,
-        right_count,
-        right_reals,
-        name,
-        nth,
-    )
+    let at = next_key(left, left_records, right, right_records, from);
+    let m = at.left;
+    let n = at.right;
+    if !content::same_reals(left_records, left_reals, m, right_records, right_reals, n) {
+        return step_of(at, false);
+    }
+    let same = content::same_but_reals(left, left_records, m, right, right_records, n);
+    step_of(at, same)
 }
 
 // The next line after the key held: keys that are the same in both scenes have none. Both texts have one lifetime, as a name
@@ -298,26 +203,22 @@ fn next_step<'a>(
 pub fn next_line<'a>(
     left: &'a [u8],
     left_records: &[u32],
-    left_count: usize,
     left_reals: &[f64],
     right: &'a [u8],
     right_records: &[u32],
-    right_count: usize,
     right_reals: &[f64],
     from: Place,
 ) -> Next
-    ensures { λ answer. ⌜ (let l = rowsIn (now (left .entry)) (now («left_records» .entry)) (now («left_reals» .entry)) «left_count» in let r = rowsIn (now (right .entry)) (now («right_records» .entry)) (now («right_reals» .entry)) «right_count» in answer ≡ nextLine l r (keyIn l r from)) ⌝ }
+    ensures { λ r. ⌜ r ≡ nextLine (sceneRows (now (left .entry)) (now («left_records» .entry)) (now («left_reals» .entry))) (sceneRows (now (right .entry)) (now («right_records» .entry)) (now («right_reals» .entry))) from ⌝ }
 {
     let mut at = from;
     loop {
         match next_step(
             left,
             left_records,
-            left_count,
             left_reals,
             right,
             right_records,
-            right_count,
             right_reals,
             at,
         ) {

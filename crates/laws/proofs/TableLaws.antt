@@ -1,12 +1,12 @@
 -- A table's test gives its rule at each entry.
 use mathlib.Core.Bool.{Bool}
-use mathlib.Core.List.{List, [], _∷_, map}
+use mathlib.Core.List.{List, [], _∷_, _++_, map}
 use mathlib.Core.Path.{_≡_, refl, _∙_, ap, subst, sym}
 use Prim.Native.Nat.{ℕ, zero, suc, _+_, _<_}
 use native.Mathlib.Nat.{add-zero, zero-add, add-suc, suc-add, le-of-suc-le-suc, not-suc-le-zero}
 use lib.Dec.{T, eqb, eqb→eq}
 use lib.Ieee.Fits.{and-l, and-r}
-use lib.ListN.{length, length-map, getD, List·getD-map}
+use lib.ListN.{length, length-map, getD, replicate, List·getD-map}
 use Rattle.laws.specs.Table.{ruled}
 
 module _ {A : Type 0} (test : ℕ → A → Bool) (default : A) where
@@ -29,6 +29,14 @@ pub any-default : {A : Type 0} (xs : List A) (k : ℕ) (d e : A) → k < length 
 any-default [] k d e h = absurd (not-suc-le-zero h)
 any-default (x ∷ xs) zero d e h = refl
 any-default (x ∷ xs) (suc k) d e h = any-default xs k d e (le-of-suc-le-suc h)
+
+-- defaults behind a table are not seen
+pub padded : {A : Type 0} (d : A) (xs : List A) (n k : ℕ) → getD (xs ++ replicate n d) k d ≡ getD xs k d
+padded d [] zero k = refl
+padded d [] (suc n) zero = refl
+padded d [] (suc n) (suc k) = padded d [] n k
+padded d (x ∷ xs) n zero = refl
+padded d (x ∷ xs) n (suc k) = padded d xs n k
 
 -- tables whose entries mean the same, one by one
 pub entry-means : {A B C : Type 0} (f : A → C) (g : B → C) (xs : List A) (ys : List B) → map f xs ≡ map g ys → (k : ℕ) (a : A) (b : B) → k < length xs → f (getD xs k a) ≡ g (getD ys k b)

@@ -15,11 +15,12 @@ use Rattle.linker.specs.Entered.{enteredIn, toldIn, recordFrom}
 use Rattle.linker.specs.Lookup.{latestIn}
 use Rattle.statement.specs.declared.Draft.{Draft}
 use Rattle.scene.proofs.FlatLaws.{flat-next, link, flat-snoc, flat-length}
+use Rattle.scene.proofs.GivesLaws.{gives-name}
 use Rattle.scene.proofs.GrowLaws.{records-grow}
 use Rattle.scene.proofs.PlaceLaws.{AllRead}
 use Rattle.scene.proofs.SwapLaws.{latest-le}
 use Rattle.scene.proofs.TellsLaws.{name-at, records-length, statements-length}
-use Rattle.scene.specs.Links.{latest, gives}
+use Rattle.scene.specs.Links.{latest}
 use Rattle.scene.specs.Reading.{newline, Entry, statements}
 use Rattle.scene.specs.Record.{width, flat, recordOf, Record, filled, fields, records}
 
@@ -62,7 +63,7 @@ module _ (text : Bytes) (table : List ℕ) (e : Entry) (es : List Entry) (d : Dr
   finds n q = (λ i. latestIn text (w i) (named i) ((q ∙ statements-length es) i)) ∙ search-latest text es (length table) (h .1) (e .statement .name)
 
   pub enters : (n : ℕ) → n ≡ length (statements es) → n ≤ 1024 → n * width + width ≤ length table → enteredIn text table n d ≡ filled 0 (length table) (flat (records (e ∷ es)))
-  unfolding enteredIn gives
+  unfolding enteredIn
   enters n q few f =
       let rows = length table / width in
       let in-table : min n rows ≡ n = omega arith in
@@ -79,4 +80,4 @@ module _ (text : Bytes) (table : List ℕ) (e : Entry) (es : List Entry) (d : Dr
       (λ i. sets (toldIn (w i) (finds n q i) (c i)) (n * width) (fields (own i))) ∙
       ap (λ (t : List ℕ). sets t (n * width) (fields (recordOf [] e es))) (told-link R (replicate (length table - length (flat R)) 0) m (suc (length es)) le ∙ ap {B = List ℕ} (λ (x : ℕ). flat L ++ replicate (length table - x) 0) (sym j)) ∙
       put-record L (recordOf [] e es) n (length table) (omega (arith, link-length R m (suc (length es)), k, statements-length es)) f ∙
-      ap (λ (t : List Record). filled 0 (length table) (flat t)) (sym (records-grow e refl es))
+      ap (λ (t : List Record). filled 0 (length table) (flat t)) (sym (records-grow e (gives-name (e .statement)) es))

@@ -13,42 +13,34 @@ use Rattle.laws.proofs.BoolLaws.{and-left, and-right, not-both}
 use Rattle.laws.proofs.BytesLaws.{same-eq, same-refl, same-sized}
 use Rattle.laws.specs.Bytes.{part, same, Bytes}
 use Rattle.linker.specs.Lookup.{hasName, latestIn}
-use Rattle.scene.proofs.FlatLaws.{record-in}
+use Rattle.scene.proofs.GivesLaws.{hits-name}
+use Rattle.scene.proofs.ImageLaws.{name-is, record-is}
 use Rattle.scene.proofs.PlaceLaws.{Says, AllRead}
-use Rattle.scene.proofs.TellsLaws.{read-tail, statements-length, records-at, name-at}
-use Rattle.scene.specs.Links.{hits, latest, gives, found}
+use Rattle.scene.proofs.TellsLaws.{read-tail, statements-length}
+use Rattle.scene.specs.Links.{hits, latest, found}
 use Rattle.scene.specs.Reading.{statements, Entry, newline}
-use Rattle.scene.specs.Record.{recordOf, Record, flat, filled, nothing, records, width, recordsFrom, nth, fieldIn, nameIn, recordIn}
+use Rattle.scene.specs.Record.{recordOf, flat, filled, records, width, fieldIn, nameIn, recordIn}
 
 -- the table, of n numbers, of the entries es that have been read of a text
 module _ (text : Bytes) (es : List Entry) (n : ℕ) (h : AllRead (text ++ newline) es) where
   abbrev table : List ℕ
   table = filled 0 n (flat (records es))
 
-  record-is : (l : List Entry) (e : Entry) (d : List Entry) → es ≡ l ++ e ∷ d → recordIn table (suc (length d)) ≡ recordOf l e d
-  unfolding nth records
-  record-is l e d q =
-      let m : suc (length d) - 1 ≡ length d = omega arith in
-      record-in (records es) n (suc (length d)) ∙ (λ i. getD (recordsFrom [] (q i)) (m i) nothing) ∙ records-at [] l e d
-
   said : (l : List Entry) (e : Entry) (d : List Entry) → es ≡ l ++ e ∷ d → Says (text ++ newline) (e .places .name) (e .statement .name)
   said l e d q = read-tail (text ++ newline) l (e ∷ d) (subst (AllRead (text ++ newline)) q h) .0 .name
-
-  name-is : (l : List Entry) (e : Entry) (d : List Entry) → es ≡ l ++ e ∷ d → nameIn text table (suc (length d)) ≡ e .statement .name
-  unfolding nameIn recordOf
-  name-is l e d q = ap (λ (r : Record). part text (r .name) (r .nameLength)) (record-is l e d q) ∙ name-at text (e .places .name) (e .statement .name) (said l e d q)
 
   has-is : (w : Bytes) (l : List Entry) (e : Entry) (d : List Entry) → es ≡ l ++ e ∷ d → hasName text table (suc (length d)) w ≡ same w (e .statement .name)
   unfolding hasName recordOf
   has-is w l e d q =
-      (λ i. leb (record-is l e d q i .name + record-is l e d q i .nameLength) (length text) && eqb (record-is l e d q i .nameLength) (length w) && same w (name-is l e d q i))
+      let r = record-is text es n l e d q in
+      (λ i. leb (r i .name + r i .nameLength) (length text) && eqb (r i .nameLength) (length w) && same w (name-is text es n l e d q h i))
       ∙ ap (λ (b : Bool). b && eqb (length (e .statement .name)) (length w) && same w (e .statement .name)) (le-leb (e .places .name + length (e .statement .name)) (length text) (omega (arith, said l e d q .fits, length-append text newline)))
       ∙ same-sized (e .statement .name) w
 
   search-is : (w : Bytes) (l d : List Entry) → es ≡ l ++ d → latestIn text table w (length d) ≡ latest w (statements d)
-  unfolding latestIn found statements hits gives
+  unfolding latestIn found statements
   search-is w l [] q = refl
-  search-is w l (e ∷ d) q = (λ i. cond (has-is w l e d q i) (suc (sym (statements-length d) i)) (search-is w (l ++ e ∷ []) d (q ∙ sym (append-assoc l (e ∷ []) d)) i)) ∙ go (same w (e .statement .name))
+  search-is w l (e ∷ d) q = (λ i. cond ((has-is w l e d q ∙ sym (hits-name w (e .statement))) i) (suc (sym (statements-length d) i)) (search-is w (l ++ e ∷ []) d (q ∙ sym (append-assoc l (e ∷ []) d)) i)) ∙ go (hits w (e .statement))
     where
       go : (b : Bool) → cond b (suc (length (statements d))) (latest w (statements d)) ≡ length (cond b (e .statement ∷ statements d) (found w (statements d)))
       go true = refl

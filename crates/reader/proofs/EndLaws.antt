@@ -35,6 +35,7 @@ use Rattle.scene.specs.declared.Settings.{Settings}
 use Rattle.statement.specs.declared.Seen.{Seen}
 use Rattle.statement.specs.declared.State.{State}
 use Rattle.statement.specs.declared.Step.{Step}
+use Rattle.scene.proofs.ImageLaws.{zero-records, zero-reals}
 use Rattle.scene.proofs.TellsLaws.{statements-length, reals-length}
 use Rattle.scene.specs.HouseRules.{zeroReal}
 use Rattle.scene.specs.Links.{realsUsed}
@@ -227,12 +228,11 @@ short-read R text h = ap (λ (b : Bool). cond b (result text R) (refused 1 0)) (
 module _ (text : Bytes) (T₀ : List ℕ) (D₀ : List Float) where
   -- what a refusal promises
   pub refused-reads : (n p : ℕ) (T : List ℕ) (D : List Float) → readInto text T₀ D₀ ≡ refused n p → T ≡ replicate (length T₀) 0 → D ≡ replicate (length D₀) zeroReal → Reads text T₀ D₀ (Refused n p) T D
-  unfolding records recordsFrom flat table-of.reals statements recordImage realImage
   refused-reads n p T D e t d = record {
     says = ap answered (sym e);
     numbers = ap answer (sym e);
-    table = t ∙ ap (λ (k : ℕ). replicate k 0) (sym (sub-zero (length T₀))) ∙ ap (recordImage (length T₀)) (sym e);
-    doubles = d ∙ ap (λ (k : ℕ). replicate k zeroReal) (sym (sub-zero (length D₀))) ∙ ap (realImage (length D₀)) (sym e);
+    table = t ∙ zero-records (length T₀) n p ∙ ap (recordImage (length T₀)) (sym e);
+    doubles = d ∙ zero-reals (length D₀) n p ∙ ap (realImage (length D₀)) (sym e);
   }
 
   pub too-long : 65536 < length text → readInto text T₀ D₀ ≡ refused 1 0

@@ -5,3 +5,4 @@ pub mod WordLaws
 pub mod ReadyLaws
 pub mod EndLaws
 pub mod ExchangeLaws
+pub mod ReadsLaws

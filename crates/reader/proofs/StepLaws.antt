@@ -25,9 +25,10 @@ use Rattle.scene.specs.declared.Settings.{Settings}
 use Rattle.statement.specs.declared.Seen.{Seen}
 use Rattle.statement.specs.declared.State.{State}
 use Rattle.statement.specs.declared.Step.{Step}
+use Rattle.scene.proofs.GivesLaws.{next-none}
 use Rattle.scene.proofs.TellsLaws.{numbers-length, string-here, string-below, resolve-tail, tail-length}
 use Rattle.scene.specs.HouseRules.{breachAt, breach, houseRules}
-use Rattle.scene.specs.Links.{typeIn, modifierLink, stringsIn, latest, gives, realsUsed, realsIn, resolve, definition, bodyOf, firstLater}
+use Rattle.scene.specs.Links.{typeIn, modifierLink, stringsIn, latest, realsUsed, realsIn, resolve, definition, bodyOf}
 use Rattle.scene.specs.Phase.{integerCount, Outcome, fault, idle, busy, Phase, atIntegerCount, atTarget, into, done, stringCount, typed, atReal, turn, unlessFault, realCount, atType, taken, atStringCount, atAliasName, outcome, atName, strings, reals, atRealCount, real, Turn, onto, Part, atString}
 use Rattle.scene.specs.Reading.{settle, modifierTest, Places, Entry, statements, targetTest, note, roomTest, test, atEnd}
 use Rattle.scene.specs.Record.{recordOf, stringPlace, firstReal, unlessNone}
@@ -161,14 +162,14 @@ module _ (r : Settings) (es : List Entry) (k : Places) (p : ℕ) (w : Bytes) (u 
 
     step-real-count : (t : ℕ) (n : Bytes) (ss : List Bytes) → u ≡ realsUsed d
         → Follows (busy m (atRealCount t n ss)) (taken r (busy m (atRealCount t n ss)) w) (test r d (busy m (atRealCount t n ss)) w) (realCountStep w (r .reals) (before (atRealCount t n ss)) v)
-    unfolding realCountStep recordOf statements gives firstLater complete
+    unfolding realCountStep recordOf statements complete
     step-real-count t n ss f = go (countOf w)
       where
         e : Entry
         e = complete (atRealCount t n ss) n (primitive t ss [])
 
         many : (j : ℕ) → FollowsPart (atRealCount t n ss) (reals t n ss [] j) (realsTo (before (atRealCount t n ss)) u j)
-        many zero = record { places = note (busy m (atRealCount t n ss)) p k; entry = e; goes = refl; place = refl; count = refl; used = refl; own = (λ i. record { type = t; modifier = modifierLink m d; target = 0; name = k .name; nameLength = length n; string = sym (string-here e es) i; strings = length ss; real = 0; reals = 0; next = 0 }); reals = refl }
+        many zero = record { places = note (busy m (atRealCount t n ss)) p k; entry = e; goes = refl; place = refl; count = refl; used = refl; own = (λ i. record { type = t; modifier = modifierLink m d; target = 0; name = k .name; nameLength = length n; string = sym (string-here e es) i; strings = length ss; real = 0; reals = 0; next = sym (next-none (e .statement) d) i }); reals = refl }
         many (suc j) = let q : suc j ≡ 0 + suc j = omega arith in onto-part (atRealCount t n ss) (atReal t n ss [] j) _ (λ i. record { at = after; count = length d; used = realsUsed d + 0; left = j; phase = is.Real; draft = record { kind = t; modifier = modifierLink m d; target = 0; name = k .name; size = length n; string = k .string; strings = length ss; real = f i; reals = q i } }) refl
 
         fits : (b : Bool) (j : ℕ) → Follows (busy m (atRealCount t n ss)) (outcome m (reals t n ss [] j)) (cond b 0 13) (cond b (realsTo (before (atRealCount t n ss)) u j) (to.Refused 13 p))
@@ -186,7 +187,7 @@ module _ (r : Settings) (es : List Entry) (k : Places) (p : ℕ) (w : Bytes) (u 
 
     step-real : (t : ℕ) (n : Bytes) (ss : List Bytes) (rs : List Literal) (j : ℕ) → realsUsed d + length (numbers rs) < r .reals → ((x : Float) → breachAt houseRules t (length rs + suc j - j) x y z ≡ breach t (numbers rs ++ x ∷ []))
         → FollowsPart (atReal t n ss rs j) (turn r (atReal t n ss rs j) w) (realStep w (r .reals) (before (atReal t n ss rs j)) v)
-    unfolding realStep recordOf statements gives firstLater complete
+    unfolding realStep recordOf statements complete
     step-real t n ss rs j l f = go (numeralOf w)
       where
         more : Float → List Literal
@@ -208,7 +209,7 @@ module _ (r : Settings) (es : List Entry) (k : Places) (p : ℕ) (w : Bytes) (u 
               place = refl;
               count = refl;
               used = used x;
-              own = (λ i. record { type = t; modifier = modifierLink m d; target = 0; name = k .name; nameLength = length n; string = sym (string-here e es) i; strings = length ss; real = h i; reals = c i; next = 0 });
+              own = (λ i. record { type = t; modifier = modifierLink m d; target = 0; name = k .name; nameLength = length n; string = sym (string-here e es) i; strings = length ss; real = h i; reals = c i; next = sym (next-none (e .statement) d) i });
               reals = numbers-snoc rs w x;
             }
         left false x (suc i) =
@@ -226,7 +227,7 @@ module _ (r : Settings) (es : List Entry) (k : Places) (p : ℕ) (w : Bytes) (u 
 
     step-target : (n : Bytes) → latest w d ≡ number → FoundAs es w o number
         → Follows (busy m (atTarget n)) (taken r (busy m (atTarget n)) w) (test r d (busy m (atTarget n)) w) (targetStep (before (atTarget n)) v)
-    unfolding targetStep recordOf statements gives firstLater complete
+    unfolding targetStep recordOf statements complete
     step-target n l f = go number l f
       where
         e : Entry
@@ -246,7 +247,7 @@ module _ (r : Settings) (es : List Entry) (k : Places) (p : ℕ) (w : Bytes) (u 
           place = refl;
           count = refl;
           used = refl;
-          own = (λ i. record { type = h i .kind; modifier = modifierLink m d; target = sym l i; name = k .name; nameLength = length n; string = h i .string; strings = h i .strings; real = h i .real; reals = h i .reals; next = 0 }) ∙ (λ i. record { type = typeIn (bodyOf (resolve w d)); modifier = modifierLink m d; target = latest w d; name = k .name; nameLength = length n; string = sym string i; strings = length (stringsIn (bodyOf (resolve w d))); real = firstReal (resolve w d); reals = length (realsIn (bodyOf (resolve w d))); next = 0 });
+          own = (λ i. record { type = h i .kind; modifier = modifierLink m d; target = sym l i; name = k .name; nameLength = length n; string = h i .string; strings = h i .strings; real = h i .real; reals = h i .reals; next = 0 }) ∙ (λ i. record { type = typeIn (bodyOf (resolve w d)); modifier = modifierLink m d; target = latest w d; name = k .name; nameLength = length n; string = sym string i; strings = length (stringsIn (bodyOf (resolve w d))); real = firstReal (resolve w d); reals = length (realsIn (bodyOf (resolve w d))); next = sym (next-none (e .statement) d) i });
           reals = refl;
         }
 

@@ -1,106 +1,21 @@
-// Two saves of a scene, read from files and compared: on standard output a line for each key that only one save has, or
-// that was changed. A save that is refused or cannot be read gives one line, the left one first.
-use comparison::Both;
-use comparison::Next;
-use comparison::Place;
-use comparison::Side;
-use comparison::State;
+// Two saves of a scene, read from files, compared, and reported. A save that is refused or cannot be read gives one line, the
+// left one first. Each function answers whether all of it was written.
 use input::Loaded;
-use libc::STDOUT_FILENO;
+use input::MOST_BYTES;
+use pair::Both;
+use pair::Side;
 use reader::Answer;
-
-// As many keys as two scenes can have, and so no fewer than the lines.
-const KEYS: usize = 2048;
-
-fn print(text: &[u8]) {
-    io::write_all(STDOUT_FILENO, text);
-}
-
-fn print_scene(side: Side) {
-    match side {
-        Side::Left => print(b"scene=left"),
-        Side::Right => print(b"scene=right"),
-    }
-}
-
-fn print_refusal(side: Side, reason: u32, place: usize) {
-    print_scene(side);
-    print(b" refused=");
-    io::print_decimal(STDOUT_FILENO, reason as u64);
-    print(b" place=");
-    io::print_decimal(STDOUT_FILENO, place as u64);
-    print(b"\n");
-}
-
-fn print_unreadable(side: Side) {
-    print_scene(side);
-    print(b" unreadable\n");
-}
-
-fn print_state(state: State) {
-    match state {
-        State::OnlyLeft => print(b" state=left\n"),
-        State::OnlyRight => print(b" state=right\n"),
-        State::Changed => print(b" state=changed\n"),
-    }
-}
-
-// The line of a key, which a primitive of this text has.
-fn print_line(text: &[u8], records: &[u32], count: usize, number: usize, nth: usize, state: State) {
-    print(b"name=");
-    print(finish::name(text, records, count, number));
-    print(b" nth=");
-    io::print_decimal(STDOUT_FILENO, nth as u64);
-    print_state(state);
-}
-
-// Prints the lines one by one. Each search goes on from the key of the line before.
-fn print_lines<'a>(
-    left: &'a [u8],
-    left_records: &[u32],
-    left_count: usize,
-    left_reals: &[f64],
-    right: &'a [u8],
-    right_records: &[u32],
-    right_count: usize,
-    right_reals: &[f64],
-) {
-    let mut from = Place::Left(0);
-    let mut lines = 0;
-    while lines < KEYS {
-        match comparison::next_line(
-            left,
-            left_records,
-            left_count,
-            left_reals,
-            right,
-            right_records,
-            right_count,
-            right_reals,
-            from,
-        ) {
-            Next::End => {
-                return;
-            }
-            Next::Line(place, nth, state) => {
-                match place {
-                    Place::Left(n) => print_line(left, left_records, left_count, n, nth, state),
-                    Place::Right(n) => print_line(right, right_records, right_count, n, nth, state),
-                }
-                from = place;
-            }
-        }
-        lines += 1;
-    }
-}
+use table::MOST_NUMBERS;
+use table::MOST_REALS;
+use table::first_records;
 
 // Compares two texts, and prints the lines or the refusal.
-fn compare<'a>(left: &'a [u8], right: &'a [u8]) {
-    let mut left_records = [0u32; table::MOST_NUMBERS];
-    let mut left_reals = [0.0f64; table::MOST_REALS];
-    let mut right_records = [0u32; table::MOST_NUMBERS];
-    let mut right_reals = [0.0f64; table::MOST_REALS];
-    match comparison::read_both(
+fn compare<'a>(left: &'a [u8], right: &'a [u8]) -> bool {
+    let mut left_records = [0u32; MOST_NUMBERS];
+    let mut left_reals = [0.0f64; MOST_REALS];
+    let mut right_records = [0u32; MOST_NUMBERS];
+    let mut right_reals = [0.0f64; MOST_REALS];
+    match pair::read_both(
         left,
         &mut left_records,
         &mut left_reals,
@@ -108,60 +23,55 @@ fn compare<'a>(left: &'a [u8], right: &'a [u8]) {
         &mut right_records,
         &mut right_reals,
     ) {
-        Both::Read(left_count, _, right_count, _) => {
-            print_lines(
-                left,
-                &left_records,
-                left_count,
-                &left_reals,
-                right,
-                &right_records,
-                right_count,
-                &right_reals,
-            );
-        }
-        Both::Refused(side, reason, place) => {
-            print_refusal(side, reason, place);
-        }
+        Both::Read(left_count, _, right_count, _) => report::print_lines(
+            left,
+            first_records(&left_records, left_count),
+            &left_reals,
+            right,
+            first_records(&right_records, right_count),
+            &right_reals,
+        ),
+        Both::Refused(side, reason, place) => report::print_refusal(side, reason, place),
     }
 }
 
-// Whether the left text is accepted. Where it is not, its refusal is printed, and there is nothing to say of the right one.
-fn accepts_left(left: &[u8]) -> bool {
-    let mut records = [0u32; table::MOST_NUMBERS];
-    let mut reals = [0.0f64; table::MOST_REALS];
-    match reader::read(left, &mut records, &mut reals) {
-        Answer::Accepted(_, _) => true,
-        Answer::Refused(reason, place) => {
-            print_refusal(Side::Left, reason, place);
-            false
-        }
+// What a left text comes to without a right one: its own refusal, or nothing.
+fn left_refusal(left: &[u8]) -> Answer {
+    let mut records = [0u32; MOST_NUMBERS];
+    let mut reals = [0.0f64; MOST_REALS];
+    reader::read(left, &mut records, &mut reals)
+}
+
+// The left text's refusal comes first.
+fn print_too_long(left: &[u8]) -> bool {
+    match left_refusal(left) {
+        Answer::Accepted(_, _) => report::print_refusal(Side::Right, 1, 0),
+        Answer::Refused(reason, place) => report::print_refusal(Side::Left, reason, place),
     }
 }
 
-fn compare_with_right(left: &[u8], argument: usize) {
-    let mut right = [0u8; input::MOST_BYTES];
+fn print_unreadable(left: &[u8]) -> bool {
+    match left_refusal(left) {
+        Answer::Accepted(_, _) => report::print_unreadable(Side::Right),
+        Answer::Refused(reason, place) => report::print_refusal(Side::Left, reason, place),
+    }
+}
+
+fn compare_with_right(left: &[u8], argument: usize) -> bool {
+    let mut right = [0u8; MOST_BYTES];
     match input::load_argument(argument, &mut right) {
         Loaded::Text(n) => compare(left, lexer::part(&right, 0, n)),
-        Loaded::TooLong => {
-            if accepts_left(left) {
-                print_refusal(Side::Right, 1, 0);
-            }
-        }
-        Loaded::Unreadable => {
-            if accepts_left(left) {
-                print_unreadable(Side::Right);
-            }
-        }
+        Loaded::TooLong => print_too_long(left),
+        Loaded::Unreadable => print_unreadable(left),
     }
 }
 
 // Compares the files that two arguments name.
-pub fn compare_arguments(left_argument: usize, right_argument: usize) {
-    let mut left = [0u8; input::MOST_BYTES];
+pub fn compare_arguments(left_argument: usize, right_argument: usize) -> bool {
+    let mut left = [0u8; MOST_BYTES];
     match input::load_argument(left_argument, &mut left) {
         Loaded::Text(n) => compare_with_right(lexer::part(&left, 0, n), right_argument),
-        Loaded::TooLong => print_refusal(Side::Left, 1, 0),
-        Loaded::Unreadable => print_unreadable(Side::Left),
+        Loaded::TooLong => report::print_refusal(Side::Left, 1, 0),
+        Loaded::Unreadable => report::print_unreadable(Side::Left),
     }
 }

@@ -5,9 +5,10 @@ use mathlib.Core.Path.{sym, _≡_, refl, ap, _∙_}
 use Prim.Native.Nat.{_-_, _≤_, ℕ, zero, suc, _+_, _*_, _<_}
 use native.Mathlib.Omega.{arith}
 use lib.Dec.{lit<}
-use lib.ListN.{replicate, length, set, getD, List·getD-append}
+use lib.ListN.{length, set, getD, List·getD-append, List·getD-eq-default}
 use lib.Seq.{getD-append-add}
 use Rattle.laws.proofs.NatLaws.{le-or-lt}
+use Rattle.laws.proofs.TableLaws.{padded}
 use Rattle.scene.specs.Record.{recordIn, fieldIn, nth, filled, Record, fields, nothing, width, flat}
 
 -- a record with its next set
@@ -46,34 +47,14 @@ flat-snoc (q ∷ rs) r = ap {B = List ℕ} (λ (z : List ℕ). fields q ++ z) (f
 
 -- ---- a record read from the table
 
--- past its end a list has the default
-beyond : (l : List ℕ) (j : ℕ) → length l ≤ j → getD l j 0 ≡ 0
-beyond [] j h = refl
-beyond (x ∷ l) zero h = absurd (omega arith)
-beyond (x ∷ l) (suc j) h = beyond l j (omega arith)
-
-zeros : (k j : ℕ) → _≡_ {A = ℕ} (getD (replicate k 0) j 0) 0
-zeros zero j = refl
-zeros (suc k) zero = refl
-zeros (suc k) (suc j) = zeros k j
-
--- zeros behind a table are not seen
-padded : (l : List ℕ) (k j : ℕ) → getD (l ++ replicate k 0) j 0 ≡ getD l j 0
-padded [] k j = zeros k j
-padded (x ∷ l) k zero = refl
-padded (x ∷ l) k (suc j) = padded l k j
-
 -- number j of record k, also where there is no such record
 flat-any : (rs : List Record) (k j : ℕ) → j < width → getD (fields nothing) j 0 ≡ 0 → getD (flat rs) (k * width + j) 0 ≡ getD (fields (getD rs k nothing)) j 0
 flat-any rs k j l z = go (le-or-lt (length rs) k)
   where
     go : (length rs ≤ k) ⊎ (k < length rs) → getD (flat rs) (k * width + j) 0 ≡ getD (fields (getD rs k nothing)) j 0
-    go (inl h) = beyond (flat rs) (k * width + j) (omega (arith, flat-length rs)) ∙ sym z ∙ ap (λ (r : Record). getD (fields r) j 0) (sym (absent rs k h))
-      where
-        absent : (rs : List Record) (k : ℕ) → length rs ≤ k → getD rs k nothing ≡ nothing
-        absent [] k h = refl
-        absent (r ∷ rs) zero h = absurd (omega arith)
-        absent (r ∷ rs) (suc k) h = absent rs k (omega arith)
+    go (inl h) =
+        let beyond : length (flat rs) ≤ k * width + j = omega (arith, flat-length rs) in
+        List·getD-eq-default (flat rs) 0 beyond ∙ sym z ∙ ap (λ (r : Record). getD (fields r) j 0) (sym (List·getD-eq-default rs nothing h))
     go (inr h) = flat-at rs k j h l
 
 -- the table as it is read is the records
@@ -82,4 +63,4 @@ unfolding recordIn fieldIn nth
 record-in rs m n = λ i. record { type = cell 0 (lit< tt) refl i; modifier = cell 1 (lit< tt) refl i; target = cell 2 (lit< tt) refl i; name = cell 3 (lit< tt) refl i; nameLength = cell 4 (lit< tt) refl i; string = cell 5 (lit< tt) refl i; strings = cell 6 (lit< tt) refl i; real = cell 7 (lit< tt) refl i; reals = cell 8 (lit< tt) refl i; next = cell 9 (lit< tt) refl i }
   where
     cell : (j : ℕ) → j < width → getD (fields nothing) j 0 ≡ 0 → getD (filled 0 m (flat rs)) ((n - 1) * width + j) 0 ≡ getD (fields (getD rs (n - 1) nothing)) j 0
-    cell j l z = padded (flat rs) (m - length (flat rs)) ((n - 1) * width + j) ∙ flat-any rs (n - 1) j l z
+    cell j l z = padded 0 (flat rs) (m - length (flat rs)) ((n - 1) * width + j) ∙ flat-any rs (n - 1) j l z

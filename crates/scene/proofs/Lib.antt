@@ -1,3 +1,4 @@
+pub mod GivesLaws
 pub mod SyntaxLaws
 pub mod AcceptLaws
 pub mod SwapLaws
@@ -14,6 +15,7 @@ pub mod BlockLaws
 pub mod TellsLaws
 pub mod ExchangeLaws
 pub mod FlatLaws
+pub mod ImageLaws
 pub mod GrowLaws
 pub mod TurnLaws
 pub mod ReadingLaws

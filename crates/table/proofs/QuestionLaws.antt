@@ -22,6 +22,10 @@ module _ (table : List ℕ) (n : ℕ) where
   unfolding fieldIn recordIn
   modifier-field = refl
 
+  pub target-field : fieldIn table n 2 ≡ recordIn table n .target
+  unfolding fieldIn recordIn
+  target-field = refl
+
   pub name-field : fieldIn table n 3 ≡ recordIn table n .name
   unfolding fieldIn recordIn
   name-field = refl
@@ -29,6 +33,14 @@ module _ (table : List ℕ) (n : ℕ) where
   pub length-field : fieldIn table n 4 ≡ recordIn table n .nameLength
   unfolding fieldIn recordIn
   length-field = refl
+
+  pub strings-field : fieldIn table n 6 ≡ recordIn table n .strings
+  unfolding fieldIn recordIn
+  strings-field = refl
+
+  pub reals-field : fieldIn table n 8 ≡ recordIn table n .reals
+  unfolding fieldIn recordIn
+  reals-field = refl
 
 -- ---- whether a primitive can be asked about
 

@@ -1,9 +1,9 @@
 // The record's layout, and what every user of a table of records does with one. A table may hold anything.
 ghost use mathlib.Core.Path.{_≡_};
-ghost use Prim.Native.Nat.{_-_};
-ghost use lib.ListN.{length, replicate};
+ghost use Prim.Native.Nat.{_-_, _*_, _/_, min};
+ghost use lib.ListN.{length, replicate, take};
 ghost use Rattle.scene.specs.HouseRules.{zeroReal};
-ghost use Rattle.scene.specs.Record.{fieldIn, nameIn, settingsFor};
+ghost use Rattle.scene.specs.Record.{fieldIn, nameIn, settingsFor, width};
 ghost use Rattle.table.specs.Question.{numberRefusal};
 use scene::Settings;
 
@@ -83,6 +83,14 @@ pub fn name_of<'a>(text: &'a [u8], records: &[u32], n: usize) -> &'a [u8]
         field(records, n, NAME) as usize,
         field(records, n, NAME_LENGTH) as usize,
     )
+}
+
+// The first so many records: all of them where the table has fewer.
+pub fn first_records<'a>(records: &'a [u32], count: usize) -> &'a [u32]
+    ensures { λ r. ⌜ now r ≡ take (min count (length (now (records .entry)) / width) * width) (now (records .entry)) ⌝ }
+{
+    let end = lexer::least(count, records.len() / WIDTH) * WIDTH;
+    &records[0..end]
 }
 
 // Why a primitive cannot be asked about: 18 for the count, then 17 for the number; else 0.

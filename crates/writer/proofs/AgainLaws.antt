@@ -6,15 +6,16 @@ use Prim.Native.Nat.{ℕ}
 use lib.ListN.{length}
 use Rattle.bits.proofs.BitsLaws.{reals-same}
 use Rattle.bits.specs.Bits.{sameReals}
+use Rattle.fresh.specs.Fresh.{tablesMatch}
 use Rattle.laws.proofs.BytesLaws.{same-refl}
 use Rattle.laws.specs.Bytes.{Bytes, same}
+use Rattle.scene.proofs.ImageLaws.{numbers-kept, reals-kept}
 use Rattle.scene.specs.Reading.{Entry, Reading, accepted, read, statements}
 use Rattle.scene.specs.Record.{recordImage, realImage, settingsFor}
-use Rattle.writer.proofs.ReadBackLaws.{read-back}
-use Rattle.writer.proofs.TableLaws.{image-length, doubles-length}
-use Rattle.writer.specs.Answer.{refused, tablesMatch, fitted, outcomeOf}
-use Rattle.writer.specs.ReadBack.{writtenFrom, WriteAgainLaw}
-use Rattle.writer.specs.Tidy.{tidy}
+use Rattle.tidying.proofs.ReadBackLaws.{read-back}
+use Rattle.tidying.specs.Tidy.{tidy}
+use Rattle.writer.specs.Answer.{refused, fitted, outcomeOf}
+use Rattle.writer.specs.Again.{writtenFrom, WriteAgainLaw}
 
 -- the tables that a reading leaves match it
 own-match : (n m : ℕ) (x : Reading) → length (recordImage n x) ≡ n → length (realImage m x) ≡ m → tablesMatch (recordImage n x) (realImage m x) x ≡ true
@@ -24,8 +25,8 @@ own-match n m x e f = (λ i. same (recordImage n x) (recordImage (e i) x) && sam
 own-written : (text : Bytes) (n m room : ℕ) (es : List Entry) → read (settingsFor n m) text ≡ accepted es → writtenFrom text n m room ≡ fitted room (tidy (statements es))
 own-written text n m room es e =
     let x = read (settingsFor n m) text in
-    let a = image-length n m text in
-    let b = doubles-length n m text in
+    let a = numbers-kept n m text in
+    let b = reals-kept n m text in
     ap (outcomeOf (recordImage n x) (realImage m x) room) ((λ i. read (settingsFor (a i) (b i)) text) ∙ e)
     ∙ (λ i. cond (tablesMatch (recordImage n (e i)) (realImage m (e i)) (accepted es)) (fitted room (tidy (statements es))) (refused 22 0))
     ∙ ap (λ (t : Bool). cond t (fitted room (tidy (statements es))) (refused 22 0)) (own-match n m (accepted es) (ap (λ (y : Reading). length (recordImage n y)) (sym e) ∙ a) (ap (λ (y : Reading). length (realImage m y)) (sym e) ∙ b))

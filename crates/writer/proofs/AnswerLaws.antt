@@ -12,26 +12,26 @@ use lib.ListN.{length, take, drop, replicate, length-drop, drop-of-length-le}
 use lib.Seq.{take-all, take-at}
 use Rattle.bits.specs.Bits.{sameReals}
 use Rattle.buffer.specs.Put.{put}
+use Rattle.fresh.specs.Fresh.{tablesMatch, freshOf}
+use Rattle.fresh.specs.declared.Fresh.the-variants as fresh
 use Rattle.laws.proofs.BoolLaws.{and-left}
 use Rattle.laws.proofs.BytesLaws.{same-eq}
 use Rattle.laws.proofs.ListLaws.{rest-of, take-min}
 use Rattle.laws.specs.Bytes.{Bytes}
+use Rattle.lines.proofs.PutsLaws.{puts-length}
+use Rattle.lines.specs.Puts.{Puts}
+use Rattle.lines.specs.declared.Cursor.{Cursor}
 use Rattle.reader.specs.Answer.{readInto}
+use Rattle.record_text.proofs.RowLaws.{written}
+use Rattle.record_text.specs.RecordText.{recordTexts}
 use Rattle.scene.specs.Reading as reading
 use Rattle.scene.specs.Reading.{Reading, accepted, read, statements}
 use Rattle.scene.specs.Record.{filled, recordImage, realImage, settingsFor}
 use Rattle.scene.specs.declared.Settings.{Settings}
-use Rattle.writer.proofs.PutsLaws.{puts-length}
-use Rattle.writer.proofs.RowLaws.{written}
+use Rattle.tidying.specs.Tidy.{tidy}
 use Rattle.writer.specs.Answer as answer
-use Rattle.writer.specs.Answer.{refused, tablesMatch, fitted, outcomeOf, tidied, answered, Writes}
-use Rattle.writer.specs.Fresh.{freshOf}
-use Rattle.writer.specs.Row.{recordTexts}
-use Rattle.writer.specs.Tidy.{tidy}
-use Rattle.writer.specs.Writing.{Puts}
+use Rattle.writer.specs.Answer.{refused, fitted, outcomeOf, tidied, answered, Writes}
 use Rattle.writer.specs.declared.Answer.the-variants as call
-use Rattle.writer.specs.declared.tables.Fresh.the-variants as fresh
-use Rattle.writer.specs.declared.writing.Cursor.{Cursor}
 
 -- ---- the comparison of the tables
 

@@ -1,11 +1,2 @@
-pub mod WordLaws
-pub mod CountLaws
-pub mod ProperLaws
-pub mod StatementLaws
-pub mod ReadBackLaws
-pub mod RowLaws
-pub mod PutsLaws
-pub mod LineLaws
-pub mod TableLaws
 pub mod AnswerLaws
 pub mod AgainLaws

@@ -1,18 +1,18 @@
 -- What the writing call answers, and what it leaves in the lent output.
-use mathlib.Core.Bool.{Bool, cond, _&&_}
+use mathlib.Core.Bool.{cond}
 use mathlib.Core.List.{List, []}
 use mathlib.Core.Path.{_≡_}
 use Prim.Native.Nat.{ℕ}
 use lib.Dec.{leb}
 use lib.Ieee.{Float}
 use lib.ListN.{length}
-use Rattle.bits.specs.Bits.{sameReals}
-use Rattle.laws.specs.Bytes.{Bytes, same}
+use Rattle.fresh.specs.Fresh.{tablesMatch}
+use Rattle.laws.specs.Bytes.{Bytes}
 use Rattle.reader.specs.Answer.{readInto}
 use Rattle.scene.specs.Reading as reading
 use Rattle.scene.specs.Reading.{Reading, accepted, statements}
-use Rattle.scene.specs.Record.{filled, recordImage, realImage}
-use Rattle.writer.specs.Tidy.{tidy}
+use Rattle.scene.specs.Record.{filled}
+use Rattle.tidying.specs.Tidy.{tidy}
 use Rattle.writer.specs.declared.Answer.{Answer}
 use Rattle.writer.specs.declared.Answer.the-variants.{Written, Refused}
 
@@ -20,11 +20,6 @@ use Rattle.writer.specs.declared.Answer.the-variants.{Written, Refused}
 pub data Outcome : Type 0 where
   refused : (reason place : ℕ) → Outcome
   written : Bytes → Outcome
-
--- "The tables, never written, are first compared with a fresh reading at those sizes, reals by bits": whole, with the entries
--- beyond the used ones
-unfoldable pub tablesMatch : (records : List ℕ) → (reals : List Float) → Reading → Bool
-tablesMatch records reals r = same records (recordImage (length records) r) && sameReals reals (realImage (length reals) r)
 
 -- "23 output too small for the exact length"
 abbrev pub fitted : (room : ℕ) → Bytes → Outcome

@@ -1,6 +1,2 @@
-pub mod Tidy
-pub mod Row
 pub mod Answer
-pub mod ReadBack
-pub mod Writing
-pub mod Fresh
+pub mod Again

@@ -1,8 +1,5 @@
 // A scene written out, tidy.
-mod tables;
-mod writing;
-
-use tables::Fresh;
+use fresh::Fresh;
 ghost use mathlib.Core.List.{_++_};
 ghost use mathlib.Core.Path.{_≡_};
 ghost use Prim.Native.Nat.{_-_};
@@ -38,13 +35,13 @@ fn clear_from(out: &mut [u8], at: usize)
 pub fn write(text: &[u8], records: &[u32], reals: &[f64], out: &mut [u8]) -> Answer
     ensures { λ r. ⌜ Writes (now (text .entry)) (now (records .entry)) (now (reals .entry)) (now (out .entry)) r (now (out .exit)) ⌝ }
 {
-    match tables::compare(text, records, reals) {
+    match fresh::compare(text, records, reals) {
         Fresh::Refused(reason, place) => {
             clear_from(out, 0);
             Answer::Refused(reason, place)
         }
         Fresh::Same(count) => {
-            let end = writing::put_records(out, text, records, count);
+            let end = record_text::put_records(out, text, records, count);
             if end.full {
                 clear_from(out, 0);
                 return Answer::Refused(23, 0);

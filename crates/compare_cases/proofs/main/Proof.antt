@@ -37,6 +37,9 @@ add-compare-arguments c = search needs
 compare-arguments-requires : tie.Need-compare-arguments-requires Inv-loop μ-loop
 compare-arguments-requires c κs = search needs
 
+returns-2 : tie.Need-returns-2 Inv-loop μ-loop
+returns-2 c = search needs
+
 add-pair : tie.Need-add-pair Inv-loop μ-loop
 add-pair c = search needs
 
@@ -46,8 +49,8 @@ loop-less c = search needs
 loop-again : tie.Need-loop-again Inv-loop μ-loop
 loop-again c = search needs
 
-returns-2 : tie.Need-returns-2 Inv-loop μ-loop
-returns-2 c = search needs
+returns-3 : tie.Need-returns-3 Inv-loop μ-loop
+returns-3 c = search needs
 
 pub main-spec : {M : Type 1} → statement M
 main-spec =
@@ -64,7 +67,8 @@ main-spec =
     returns
     add-compare-arguments
     compare-arguments-requires
+    returns-2
     add-pair
     loop-less
     loop-again
-    returns-2)
+    returns-3)

@@ -1,54 +1,52 @@
 -- `comparison::next_key` meets its contract.
-use mathlib.Core.List.{List}
-use mathlib.Core.Path.{refl, sym, _∙_}
+use mathlib.Core.List.{[]}
 use borrow.Author.Needs.{needs}
-use Rattle.scene.specs.Told.{Told}
-use Rattle.comparison.proofs.HandLaws.{follows-none, follows-some}
-use Rattle.comparison.specs.Rows.{rowsIn}
-use Rattle.comparison.specs.Scan.{nthOf}
+use Rattle.keys.specs.Rows.{sceneRows}
+use Rattle.comparison.proofs.HandLaws.{follows-held}
 use Rattle.comparison.proofs.next_key.Statement.{statement}
 use Rattle.comparison.proofs.next_key.Tie as tie
 
--- the rows of both scenes
-abbrev left-rows : tie.Start → List Told
-left-rows s = rowsIn (s .args .left .now) (s .args .left-records .now) (s .args .left-reals .now) (s .args .left-count)
+enum-known-from : tie.Need-enum-known-from
+enum-known-from c = search needs
 
-abbrev right-rows : tie.Start → List Told
-right-rows s = rowsIn (s .args .right .now) (s .args .right-records .now) (s .args .right-reals .now) (s .args .right-count)
+key-name-requires : tie.Need-key-name-requires
+key-name-requires c κs = search needs
 
-at-key-requires : tie.Need-at-key-requires
-at-key-requires c κs = search needs
+key-nth-requires : tie.Need-key-nth-requires
+key-nth-requires c κs = search needs
 
-enum-told : tie.Need-enum-told
-enum-told c = search needs
+after-key-requires : tie.Need-after-key-requires
+after-key-requires c κs = search needs
 
-next-name-requires : tie.Need-next-name-requires
-next-name-requires c κs = search needs
+enum-known-from-2 : tie.Need-enum-known-from-2
+enum-known-from-2 c = search needs
 
-enum-known-p : tie.Need-enum-known-p
-enum-known-p c = search needs
+key-name-requires-2 : tie.Need-key-name-requires-2
+key-name-requires-2 c κs = search needs
 
-enum-known-p-2 : tie.Need-enum-known-p-2
-enum-known-p-2 c = search needs
+key-nth-requires-2 : tie.Need-key-nth-requires-2
+key-nth-requires-2 c κs = search needs
+
+after-key-requires-2 : tie.Need-after-key-requires-2
+after-key-requires-2 c κs = search needs
 
 returns : tie.Need-returns
-returns c = follows-none (left-rows (c .before .before .before .before .before .before .before .before .before .before .before)) (right-rows (c .before .before .before .before .before .before .before .before .before .before .before)) (nthOf (c .before .before .before .before .before .before .before .before .before .before .before .args .name .now) (c .before .before .before .before .before .before .before .before .before .before .before .args .nth)) _ (c .before .before .before .at-key .ensures) (c .before .enum-told .given .1) _ (c .next-name .ensures)
+returns c = follows-held (sceneRows (c .before .before .before .before .before .before .before .before .before .before .args .left .now) (c .before .before .before .before .before .before .before .before .before .before .args .left-records .now) []) (sceneRows (c .before .before .before .before .before .before .before .before .before .before .args .right .now) (c .before .before .before .before .before .before .before .before .before .before .args .right-records .now) []) (c .before .before .before .before .before .before .before .before .before .before .args .from) _ _ _ _ (c .before .before .before .before .from .given .1) (c .before .before .key-name .ensures) (c .before .key-nth .ensures) (c .after-key .ensures)
 
 returns-2 : tie.Need-returns-2
-returns-2 c = follows-some (left-rows (c .before .before .before .before .before .before .before .before .before .before .before)) (right-rows (c .before .before .before .before .before .before .before .before .before .before .before)) (nthOf (c .before .before .before .before .before .before .before .before .before .before .before .args .name .now) (c .before .before .before .before .before .before .before .before .before .before .before .args .nth)) _ (sym (c .before .p .given .1) ∙ c .before .before .before .at-key .ensures) refl
-
-returns-3 : tie.Need-returns-3
-returns-3 c = follows-some (left-rows (c .before .before .before .before .before .before .before .before .before .before .before)) (right-rows (c .before .before .before .before .before .before .before .before .before .before .before)) (nthOf (c .before .before .before .before .before .before .before .before .before .before .before .args .name .now) (c .before .before .before .before .before .before .before .before .before .before .before .args .nth)) _ (sym (c .before .p2 .given .1) ∙ c .before .before .before .at-key .ensures) refl
+returns-2 c = follows-held (sceneRows (c .before .before .before .before .before .before .before .before .before .before .args .left .now) (c .before .before .before .before .before .before .before .before .before .before .args .left-records .now) []) (sceneRows (c .before .before .before .before .before .before .before .before .before .before .args .right .now) (c .before .before .before .before .before .before .before .before .before .before .args .right-records .now) []) (c .before .before .before .before .before .before .before .before .before .before .args .from) _ _ _ _ (c .before .before .before .before .from2 .given .1) (c .before .before .key-name2 .ensures) (c .before .key-nth2 .ensures) (c .after-key2 .ensures)
 
 pub next-key-spec : {M : Type 1} → statement M
 next-key-spec =
     tie.close
     (tie.spec
-    at-key-requires
-    enum-told
-    next-name-requires
-    enum-known-p
-    enum-known-p-2
+    enum-known-from
+    key-name-requires
+    key-nth-requires
+    after-key-requires
+    enum-known-from-2
+    key-name-requires-2
+    key-nth-requires-2
+    after-key-requires-2
     returns
-    returns-2
-    returns-3)
+    returns-2)

@@ -3,33 +3,33 @@ use mathlib.Core.List.{List}
 use mathlib.Core.Path.{_≡_, refl, ap, sym, _∙_}
 use borrow.Author.Needs.{needs}
 use lib.ListN.{length}
+use Rattle.keys.specs.Key.{keysOf}
+use Rattle.keys.specs.Next.{after}
+use Rattle.keys.specs.Rows.{sceneRows}
 use Rattle.scene.specs.Told.{Told}
 use Rattle.comparison.proofs.HandLaws.{answer-line, answer-none, fewer, lines-same}
 use Rattle.comparison.specs.Hand.{firstLine, keyIn, linesAfter}
-use Rattle.comparison.specs.Key.{keysOf}
-use Rattle.comparison.specs.Next.{after}
-use Rattle.comparison.specs.Rows.{rowsIn}
 use Rattle.comparison.proofs.next_line.Statement.{statement}
 use Rattle.comparison.proofs.next_line.Tie as tie
 
 abbrev Inv-loop : tie.InvT-loop
-Inv-loop left left-records left-count left-reals right right-records right-count right-reals at₀ at =
-    let l = rowsIn left left-records left-reals left-count in
-    let r = rowsIn right right-records right-reals right-count in
+Inv-loop left left-records left-reals right right-records right-reals at₀ at =
+    let l = sceneRows left left-records left-reals in
+    let r = sceneRows right right-records right-reals in
     linesAfter l r (keyIn l r at₀) ≡ linesAfter l r (keyIn l r at)
 
 abbrev μ-loop : tie.MeasureT-loop
-μ-loop left left-records left-count left-reals right right-records right-count right-reals at₀ at =
-    let l = rowsIn left left-records left-reals left-count in
-    let r = rowsIn right right-records right-reals right-count in
+μ-loop left left-records left-reals right right-records right-reals at₀ at =
+    let l = sceneRows left left-records left-reals in
+    let r = sceneRows right right-records right-reals in
     length (after (keyIn l r at) (keysOf l r))
 
 -- the rows of both scenes
 abbrev left-rows : tie.Start Inv-loop μ-loop → List Told
-left-rows s = rowsIn (s .args .left .now) (s .args .left-records .now) (s .args .left-reals .now) (s .args .left-count)
+left-rows s = sceneRows (s .args .left .now) (s .args .left-records .now) (s .args .left-reals .now)
 
 abbrev right-rows : tie.Start Inv-loop μ-loop → List Told
-right-rows s = rowsIn (s .args .right .now) (s .args .right-records .now) (s .args .right-reals .now) (s .args .right-count)
+right-rows s = sceneRows (s .args .right .now) (s .args .right-records .now) (s .args .right-reals .now)
 
 loop-holds : tie.Need-loop-holds Inv-loop μ-loop
 loop-holds c = refl

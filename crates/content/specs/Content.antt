@@ -1,0 +1,45 @@
+-- What a primitive is, and whether two are the same.
+use mathlib.Core.Bool.{Bool, true, false, _&&_}
+use mathlib.Core.List.{List, [], _∷_}
+use Prim.Native.Nat.{ℕ}
+use lib.Dec.{eqb}
+use lib.Ieee.{Float}
+use lib.ListN.{take, drop}
+use Rattle.bits.specs.Bits.{sameReals}
+use Rattle.keys.specs.Key.{Key, keyOf, sameKey}
+use Rattle.keys.specs.Rows.{sceneRows}
+use Rattle.laws.specs.Bytes.{Bytes, same}
+use Rattle.scene.specs.Record.{Record, recordIn}
+use Rattle.scene.specs.Told.{Told, tells, wordsFrom}
+
+-- the strings and the reals of a record
+abbrev pub stringsOf : Bytes → Record → List Bytes
+stringsOf text r = wordsFrom text (r .string) (r .strings)
+
+abbrev pub realsOf : List Float → Record → List Float
+realsOf reals r = take (r .reals) (drop (r .real) reals)
+
+-- what a primitive is: its type, strings and reals, and the keys of its alias target and its modifier
+pub record Content : Type 0 where
+  pub type : ℕ
+  pub strings : List Bytes
+  pub reals : List Float
+  pub alias : Key
+  pub modifier : Key
+
+abbrev pub contentOf : (all : List Told) → Told → Content
+contentOf all t = record { type = t .type; strings = t .strings; reals = t .reals; alias = keyOf all (t .target); modifier = keyOf all (t .modifier) }
+
+-- of number n of a scene
+abbrev pub contentIn : Bytes → (records : List ℕ) → (reals : List Float) → (n : ℕ) → Content
+contentIn text records reals n = contentOf (sceneRows text records reals) (tells text reals (recordIn records n))
+
+unfoldable pub sameWords : List Bytes → List Bytes → Bool
+sameWords [] [] = true
+sameWords [] (y ∷ ys) = false
+sameWords (x ∷ xs) [] = false
+sameWords (x ∷ xs) (y ∷ ys) = same x y && sameWords xs ys
+
+-- "same means equal type, strings, real bits, alias key and modifier key"
+unfoldable pub sameContent : Content → Content → Bool
+sameContent a b = eqb (a .type) (b .type) && sameWords (a .strings) (b .strings) && sameReals (a .reals) (b .reals) && sameKey (a .alias) (b .alias) && sameKey (a .modifier) (b .modifier)

@@ -1,0 +1,25 @@
+-- `fresh::real_at` meets its contract.
+use mathlib.Core.Path.{sym}
+use borrow.Author.Needs.{needs}
+use lib.Ieee.{nan}
+use lib.ListN.{List·getD-eq-default}
+use Rattle.laws.proofs.TableLaws.{any-default}
+use Rattle.scene.specs.HouseRules.{zeroReal}
+use Rattle.fresh.proofs.real_at.Statement.{statement}
+use Rattle.fresh.proofs.real_at.Tie as tie
+
+mul-result : tie.Need-mul-result
+mul-result c = search needs
+
+shared-slice-read-result : tie.Need-shared-slice-read-result
+shared-slice-read-result c = search needs
+
+returns : tie.Need-returns
+returns c = any-default (c .before .before .args .table .now) (c .before .before .args .i) nan zeroReal (c .before .if1 .taken)
+
+returns-2 : tie.Need-returns-2
+unfolding lib.Ieee.ofBits
+returns-2 c = sym (List·getD-eq-default (c .before .args .table .now) zeroReal (c .if1 .left))
+
+pub real-at-spec : {M : Type 1} → statement M
+real-at-spec = tie.close (tie.spec mul-result shared-slice-read-result returns returns-2)

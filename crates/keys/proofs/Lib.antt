@@ -1,0 +1,9 @@
+pub mod OrderLaws
+pub mod KeyLaws
+pub mod NumberLaws
+pub mod RowsLaws
+pub mod NameLaws
+pub mod PartLaws
+pub mod LeastLaws
+pub mod NextLaws
+pub mod ScanLaws

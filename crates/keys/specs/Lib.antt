@@ -1,0 +1,5 @@
+pub mod Key
+pub mod Rows
+pub mod Next
+pub mod Scan
+pub mod Properties

@@ -1,0 +1,2 @@
+pub mod PutsLaws
+pub mod LineLaws

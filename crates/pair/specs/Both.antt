@@ -1,0 +1,33 @@
+-- "Both texts are read afresh. Refusals: the reader's own, left scene first"; one "zeroes the tables of both".
+use mathlib.Core.List.{List}
+use mathlib.Core.Path.{_≡_}
+use Prim.Native.Nat.{ℕ}
+use lib.Ieee.{Float}
+use lib.ListN.{length}
+use Rattle.laws.specs.Bytes.{Bytes}
+use Rattle.reader.specs.Answer.{readInto}
+use Rattle.scene.specs.Reading.{Reading, refused, accepted}
+use Rattle.scene.specs.Record.{recordImage, realImage, realTable}
+use Rattle.pair.specs.declared.Both.{Both}
+use Rattle.pair.specs.declared.Both.the-variants.{Read, Refused}
+use Rattle.pair.specs.declared.Side.the-variants as on
+
+-- the answer that two readings come to
+abbrev pub bothAnswer : (left right : Reading) → Both
+bothAnswer (refused n p) b = Refused on.Left n p
+bothAnswer (accepted es) (refused n p) = Refused on.Right n p
+bothAnswer (accepted es) (accepted fs) = Read (length es) (length (realTable es)) (length fs) (length (realTable fs))
+
+-- a reading, which is refused where the other is
+abbrev pub beside : (own other : Reading) → Reading
+beside (refused n p) b = refused n p
+beside (accepted es) (refused n p) = refused n p
+beside (accepted es) (accepted fs) = accepted es
+
+-- the tables as they were lent, the answer, and the tables at exit
+pub record ReadsBoth (left : Bytes) (lr : List ℕ) (lx : List Float) (right : Bytes) (rr : List ℕ) (rx : List Float) (r : Both) (lr′ : List ℕ) (lx′ : List Float) (rr′ : List ℕ) (rx′ : List Float) : Type 0 where
+  pub says : r ≡ bothAnswer (readInto left lr lx) (readInto right rr rx)
+  pub leftTable : lr′ ≡ recordImage (length lr) (beside (readInto left lr lx) (readInto right rr rx))
+  pub leftDoubles : lx′ ≡ realImage (length lx) (beside (readInto left lr lx) (readInto right rr rx))
+  pub rightTable : rr′ ≡ recordImage (length rr) (beside (readInto right rr rx) (readInto left lr lx))
+  pub rightDoubles : rx′ ≡ realImage (length rx) (beside (readInto right rr rx) (readInto left lr lx))

@@ -1,0 +1,5 @@
+pub mod WordLaws
+pub mod CountLaws
+pub mod ProperLaws
+pub mod StatementLaws
+pub mod ReadBackLaws

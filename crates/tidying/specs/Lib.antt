@@ -1,0 +1,3 @@
+pub mod Tidy
+pub mod Proper
+pub mod ReadBack

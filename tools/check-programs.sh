@@ -80,6 +80,8 @@ for program in list finishes tidy; do
     expect '$bin/$program -x $scene' "usage: $program [FILE..]"$'\n' ''
     expect '$bin/$program $scene -' "usage: $program [FILE..]"$'\n' ''
 done
+expect '$bin/compare $scene samples/truck-nine-morning.rad >/dev/full' '' "$full"
+expect '$bin/compare $scene missing >/dev/full' '' "$full"
 expect '$bin/compare -x $scene' $'usage: compare LEFT RIGHT\n' ''
 expect '$bin/compare $scene' $'usage: compare LEFT RIGHT\n' ''
 

@@ -1,5 +1,5 @@
 -- The backward search: one turn of it, and that it finds what the definition of a lookup names.
-use mathlib.Core.Bool.{Bool, true, false, _&&_, cond, true≢false}
+use mathlib.Core.Bool.{Bool, true, false, _&&_, cond}
 use mathlib.Core.List.{List, [], _∷_, _++_, append-assoc}
 use mathlib.Core.Logic.{_≢_}
 use mathlib.Core.Path.{_≡_, refl, ap, sym, _∙_, subst}
@@ -75,16 +75,6 @@ find-short text tb w (suc n) h = ap (λ (b : Bool). cond b (suc n) (latestIn tex
 -- record N, which names `size` bytes from `place` on; `last` is the last place where so many bytes fit as the word has
 module _ (text : Bytes) (tb : List ℕ) (w : Bytes) (fits : length w ≤ length text) (last : ℕ) (hl : last ≡ length text - length w) (N : ℕ) (h₀ : N ≢ 0) (place size : ℕ)
     (hp : place ≡ getD tb ((N - 1) * width + 3) 0) (hs : size ≡ getD tb ((N - 1) * width + 4) 0) where
-  abbrev test : Bool
-  test = eqb size (length w) && leb place last
-
-  -- what the test says
-  pub find-fits : test ≡ true → (size ≡ length w) × (place + size ≤ length text)
-  find-fits t =
-      let q = eqb-true size (length w) (and-left (eqb size (length w)) (leb place last) t) in
-      let p = leb-true place last (and-right (eqb size (length w)) (leb place last) t) in
-      (q, omega arith)
-
   stands : Bool
   stands = leb (place + size) (length text) && eqb size (length w)
 
@@ -101,22 +91,25 @@ module _ (text : Bytes) (tb : List ℕ) (w : Bytes) (fits : length w ≤ length 
   one-less h = turn ∙ ap (λ (b : Bool). cond b N (latestIn text tb w (N - 1)))
       (not-both stands (same w (part text place size)) (λ a b. h (leb-true (place + size) (length text) (and-left (leb (place + size) (length text)) (eqb size (length w)) a)) (eqb-true size (length w) (and-right (leb (place + size) (length text)) (eqb size (length w)) a)) (same-eq w (part text place size) b)))
 
-  pub find-other : test ≡ false → latestIn text tb w N ≡ latestIn text tb w (N - 1)
-  find-other t = one-less (λ p q e. true≢false (sym (both p q) ∙ t))
-    where
-      both : place + size ≤ length text → size ≡ length w → test ≡ true
-      both p q = rw (eq-eqb size (length w) q) (le-leb place last (omega arith))
+  pub find-sized : (size ≡ length w → ⊥) → latestIn text tb w N ≡ latestIn text tb w (N - 1)
+  find-sized h = one-less (λ p q e. h q)
 
-  module _ (t : test ≡ true) where
+  pub find-beyond : last < place → latestIn text tb w N ≡ latestIn text tb w (N - 1)
+  find-beyond h = one-less (λ p q e. omega arith)
+
+  module _ (q : size ≡ length w) (p : place ≤ last) where
+    pub find-fits : place + length w ≤ length text
+    find-fits = omega arith
+
     pub find-byte : (i : ℕ) → i < length w → (getD text (place + i) 0 ≡ getD w i 0 → ⊥) → latestIn text tb w N ≡ latestIn text tb w (N - 1)
     find-byte i l h = one-less (λ p q e. h (sym (part-at text place size i (omega arith)) ∙ sym (ap (λ (z : Bytes). getD z i 0) e)))
 
     pub find-hit : ((k : ℕ) → k < length w → getD text (place + k) 0 ≡ getD w k 0) → latestIn text tb w N ≡ N
     unfolding stands
     find-hit h =
-        let f = find-fits t in
-        let e : w ≡ part text place size = ext-getD 0 w (part text place size) (sym (f .0) ∙ sym (part-length text place size (f .1))) (λ k l. sym (h k l) ∙ sym (part-at text place size k (omega (arith, f .0)))) in
-        turn ∙ rw (le-leb (place + size) (length text) (f .1), eq-eqb size (length w) (f .0)) (ap (λ (b : Bool). cond b N (latestIn text tb w (N - 1))) (ap (same w) (sym e) ∙ same-refl w))
+        let f : place + size ≤ length text = omega arith in
+        let e : w ≡ part text place size = ext-getD 0 w (part text place size) (sym q ∙ sym (part-length text place size f)) (λ k l. sym (h k l) ∙ sym (part-at text place size k (omega arith))) in
+        turn ∙ rw (le-leb (place + size) (length text) f, eq-eqb size (length w) q) (ap (λ (b : Bool). cond b N (latestIn text tb w (N - 1))) (ap (same w) (sym e) ∙ same-refl w))
 
 pub find-none : (text : Bytes) (tb : List ℕ) (w : Bytes) → latestIn text tb w 0 ≡ 0
 unfolding latestIn

@@ -5,7 +5,7 @@ use Prim.Native.Nat.{ℕ, zero, suc, _-_, _/_, min}
 use lib.Dec.{leb}
 use lib.Ieee.{Float}
 use lib.ListN.{length, getD}
-use Rattle.laws.specs.Bytes.{Bytes, part}
+use Rattle.laws.specs.Bytes.{Bytes}
 use Rattle.statement.specs.States.{opened}
 use Rattle.linker.specs.Lookup.{latestIn}
 use Rattle.statement.specs.declared.Draft.{Draft}
@@ -55,6 +55,6 @@ clipped n = min n 4294967295
 abbrev pub seenBy : List ℕ → List Float → ℕ → ℕ → ℕ → ℕ → Seen
 seenBy table reals place len u found = record { place = place; name = clipped place; size = clipped len; used = clipped u; found = clipped found; source = draftIn table found; previous = back reals u 1; first = back reals u 2 }
 
--- the same from the state, with the look-up done
-abbrev pub seenIn : Bytes → List ℕ → List Float → State → ℕ → ℕ → Seen
-seenIn text table reals s place len = seenBy table reals place len (s .used) (lookedFor (s .phase) (latestIn text table (part text place len) (min (s .count) (length table / width))))
+-- the same from the state, with the look-up of the word done
+abbrev pub seenIn : Bytes → List ℕ → List Float → State → (place : ℕ) → (word : Bytes) → Seen
+seenIn text table reals s place w = seenBy table reals place (length w) (s .used) (lookedFor (s .phase) (latestIn text table w (min (s .count) (length table / width))))

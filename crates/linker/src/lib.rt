@@ -45,18 +45,22 @@ fn find(text: &[u8], records: &[u32], count: usize, word: &[u8]) -> usize
             break 'search 0;
         }
         n -= 1;
-        let name = wide(records[n * WIDTH + NAME]);
         let size = wide(records[n * WIDTH + NAME_LENGTH]);
-        if (size == len) & (name <= last) {
-            let mut i = len;
-            while 0 < i {
-                i -= 1;
-                if text[name + i] != word[i] {
-                    continue 'search;
-                }
-            }
-            break 'search n + 1;
+        if size != len {
+            continue 'search;
         }
+        let name = wide(records[n * WIDTH + NAME]);
+        if last < name {
+            continue 'search;
+        }
+        let mut i = len;
+        while 0 < i {
+            i -= 1;
+            if text[name + i] != word[i] {
+                continue 'search;
+            }
+        }
+        break 'search n + 1;
     };
     found
 }
@@ -124,17 +128,23 @@ fn back(reals: &[f64], used: usize, j: usize) -> f64
     0.0
 }
 
-// What a step may look at beside the word, which stands at `place` and has `len` bytes.
-pub fn look(text: &[u8], records: &[u32], reals: &[f64], s: State, place: usize, len: usize) -> Seen
-    ensures { λ r. ⌜ r ≡ seenIn (now (text .entry)) (now (records .entry)) (now (reals .entry)) s place len ⌝ }
+// What a step may look at beside the word, which stands at `place`.
+pub fn look(
+    text: &[u8],
+    records: &[u32],
+    reals: &[f64],
+    s: State,
+    place: usize,
+    word: &[u8],
+) -> Seen
+    ensures { λ r. ⌜ r ≡ seenIn (now (text .entry)) (now (records .entry)) (now (reals .entry)) s place (now (word .entry)) ⌝ }
 {
     let phase = s.phase;
-    let word = lexer::part(text, place, len);
     let found = look_up(text, records, s.count, phase, word);
     Seen {
         place,
         name: narrow(place),
-        size: narrow(len),
+        size: narrow(word.len()),
         used: narrow(s.used),
         found: narrow(found),
         source: source_of(records, found),

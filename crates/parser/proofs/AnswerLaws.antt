@@ -80,13 +80,13 @@ module _ (w : Bytes) (room : ℕ) (s : State) (v : Seen) where
     real-full h l = rw (c, ← f, ← e, h, le-ltb (s .used) room l)
 
     module _ (h : q ≡ false) (l : s .used < room) where
-      pub real-last : {t : State} → t ≡ storedIn s (s .used + 1) 0 → s .left ≡ 0 → to.Last x t ≡ realStep w room s v
+      pub real-last : {t : State} → t ≡ storedIn s (s .used + 1) 0 → s .left ≡ 0 → to.Last t x ≡ realStep w room s v
       unfolding realStep
       real-last g z = rw (g, c, ← f, ← e, h, lt-ltb (s .used) room l, z)
 
-      pub real-more : {t : State} → t ≡ storedIn s (s .used + 1) (s .left - 1) → (s .left ≡ 0 → ⊥) → to.Real x t ≡ realStep w room s v
+      pub real-more : {t : State} → t ≡ storedIn s (s .used + 1) (s .left - 1) → (s .left ≡ 0 → ⊥) → to.Real t x ≡ realStep w room s v
       unfolding realStep
-      real-more g z = rw (g, c, ← f, ← e, h, lt-ltb (s .used) room l) (nonzero (λ n k. to.Real x (storedIn s (s .used + 1) k) ≡ realLeft s x n) (λ k. refl) (s .left) z)
+      real-more g z = rw (g, c, ← f, ← e, h, lt-ltb (s .used) room l) (nonzero (λ n k. to.Real (storedIn s (s .used + 1) k) x ≡ realLeft s x n) (λ k. refl) (s .left) z)
 
 -- whether so many more reals fit
 module _ (u n room : ℕ) where

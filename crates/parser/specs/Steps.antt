@@ -88,8 +88,8 @@ storedIn s u l = record { at = s .at; count = s .count; used = u; left = l; phas
 
 -- after a real comes the next one, or the statement ends with the last
 abbrev pub realLeft : State → Float → ℕ → Step
-realLeft s x zero = to.Last x (storedIn s (s .used + 1) 0)
-realLeft s x (suc k) = to.Real x (storedIn s (s .used + 1) k)
+realLeft s x zero = to.Last (storedIn s (s .used + 1) 0) x
+realLeft s x (suc k) = to.Real (storedIn s (s .used + 1) k) x
 
 -- the numeral's own reason, then "16 breaks a house rule". The room was tested at the count, so that 13 comes from no state of a
 -- reading

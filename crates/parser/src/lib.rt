@@ -135,9 +135,9 @@ fn real(word: &[u8], room: usize, s: State, v: Seen) -> Step
                 return Step::Refused(13, v.place);
             }
             if s.left == 0 {
-                return Step::Last(x, stored(s, s.used + 1, 0));
+                return Step::Last(stored(s, s.used + 1, 0), x);
             }
-            Step::Real(x, stored(s, s.used + 1, s.left - 1))
+            Step::Real(stored(s, s.used + 1, s.left - 1), x)
         }
     }
 }

@@ -84,8 +84,8 @@ module _ (text : Bytes) (table : List ℕ) (reals : List Float) (room : Settings
   faulty-word (suc n) e h = faulty text table reals room s len W n e
 
   -- t is the state behind the word, v what is seen there
-  step-stands : (w : Bytes) (t : State) (v : Seen) (step : Step) → part text (s .at) len ≡ w → wordFault w ≡ 0 → t ≡ movedTo s (s .at + len + 1) → v ≡ seenIn text table reals t (s .at) len → step ≡ stepOf (t .phase) w room t v → Stepped text table reals room s len step
-  step-stands w t v step p h q₁ q₂ q₃ = subst (Stepped text table reals room s len) (sym (q₃ ∙ ap (stepOf (t .phase) w room t) q₂ ∙ (λ i. stepOf (q₁ i .phase) (sym p i) room (q₁ i) (seenIn text table reals (q₁ i) (s .at) len)))) (steps-as text table reals room s len W (ap wordFault p ∙ h))
+  step-stands : (w : Bytes) (t : State) (v : Seen) (step : Step) → part text (s .at) len ≡ w → wordFault w ≡ 0 → t ≡ movedTo s (s .at + len + 1) → v ≡ seenIn text table reals t (s .at) w → step ≡ stepOf (t .phase) w room t v → Stepped text table reals room s len step
+  step-stands w t v step p h q₁ q₂ q₃ = subst (Stepped text table reals room s len) (sym (q₃ ∙ ap (stepOf (t .phase) w room t) q₂ ∙ (λ i. stepOf (q₁ i .phase) (sym p i) room (q₁ i) (seenIn text table reals (q₁ i) (s .at) (sym p i))))) (steps-as text table reals room s len W (ap wordFault p ∙ h))
 
 -- ---- a step is done to the tables
 
@@ -110,38 +110,38 @@ module _ (text : Bytes) (table : List ℕ) (reals : List Float) (room : Settings
   pub did-go : (t : State) → Did (to.Going t) → Inv text table reals room t × (s .at < t .at)
   did-go t S = (goes-on text table reals room s len (S .stands) t [] reals (S .goes) refl (same-reals (S .stands)), on-further (S .stands) t [] (S .goes))
 
-  pub real-room : (x : Float) (t : State) → Did (to.Real x t) → s .used < length reals
+  pub real-room : (x : Float) (t : State) → Did (to.Real t x) → s .used < length reals
   real-room x t S = stores text table reals room s len (S .stands) t x (S .goes)
 
-  pub did-real : (x : Float) (t : State) (D : List Float) → Did (to.Real x t) → D ≡ set reals (s .used) x → Inv text table D room t × (s .at < t .at)
+  pub did-real : (x : Float) (t : State) (D : List Float) → Did (to.Real t x) → D ≡ set reals (s .used) x → Inv text table D room t × (s .at < t .at)
   did-real x t D S q = let m = one-more (S .stands) x D (real-room x t S) q in (goes-on text table reals room s len (S .stands) t (x ∷ []) D (S .goes) (m .0) (m .1), on-further (S .stands) t (x ∷ []) (S .goes))
 
   pub did-complete : (t t′ : State) (T : List ℕ) → Did (to.Complete t) → T ≡ enteredIn text table (t .count) (t .draft) → length T ≡ length table → t′ ≡ between (t .at) (t .count + 1) (t .used) → Inv text T reals room t′ × (s .at < t′ .at)
   did-complete t t′ T S q l v = (goes-out text table reals room s len (S .stands) t [] (S .goes) T reals l refl (q ∙ entered text table reals room s len (S .stands) t [] (S .goes)) (same-reals (S .stands)) t′ v, omega (arith, ap (λ (z : State). z .at) v, S .goes .place))
 
-  pub last-room : (x : Float) (t : State) → Did (to.Last x t) → s .used < length reals
+  pub last-room : (x : Float) (t : State) → Did (to.Last t x) → s .used < length reals
   last-room x t S = omega (arith, used-list text table reals room s (S .stands .inv), length-append (realTable (S .stands .inv .above)) (openReals (S .stands .inv .phase)), reals-length (statements (S .stands .inv .above)), stores-last text table reals room s len (S .stands) t (x ∷ []) (S .goes), ap length (S .goes .reals), length-append (openReals (S .stands .inv .phase)) (x ∷ []))
 
-  pub did-last : (x : Float) (t t′ : State) (T : List ℕ) (D : List Float) → Did (to.Last x t) → D ≡ set reals (s .used) x → T ≡ enteredIn text table (t .count) (t .draft) → length T ≡ length table → t′ ≡ between (t .at) (t .count + 1) (t .used) → Inv text T D room t′ × (s .at < t′ .at)
+  pub did-last : (x : Float) (t t′ : State) (T : List ℕ) (D : List Float) → Did (to.Last t x) → D ≡ set reals (s .used) x → T ≡ enteredIn text table (t .count) (t .draft) → length T ≡ length table → t′ ≡ between (t .at) (t .count + 1) (t .used) → Inv text T D room t′ × (s .at < t′ .at)
   did-last x t t′ T D S p q l v = let m = one-more (S .stands) x D (last-room x t S) p in (goes-out text table reals room s len (S .stands) t (x ∷ []) (S .goes) T D l (m .0) (q ∙ entered text table reals room s len (S .stands) t (x ∷ []) (S .goes)) (m .1) t′ v, omega (arith, ap (λ (z : State). z .at) v, S .goes .place))
 
   ready-done : (step : Step) → Did step → Ready text table reals room s step
   ready-done (to.Going t) S = did-go t S
-  ready-done (to.Real x t) S = (real-room x t S, λ D q. did-real x t D S q)
-  ready-done (to.Last x t) S = (last-room x t S, count-fits text table reals room s len (S .stands) t (x ∷ []) (S .goes), λ T D t′ p q l v. did-last x t t′ T D S p q l v)
+  ready-done (to.Real t x) S = (real-room x t S, λ D q. did-real x t D S q)
+  ready-done (to.Last t x) S = (last-room x t S, count-fits text table reals room s len (S .stands) t (x ∷ []) (S .goes), λ T D t′ p q l v. did-last x t t′ T D S p q l v)
   ready-done (to.Complete t) S = (count-fits text table reals room s len (S .stands) t [] (S .goes), λ T t′ q l v. did-complete t t′ T S q l v)
   ready-done (to.Refused n p) S = did-refuse n p S
   ready-done to.Ended S = absurd (S .goes)
 
 module _ (text : Bytes) (table : List ℕ) (reals : List Float) (room : Settings) (s : State) (len : ℕ) (W : AtWord text table reals room s len) where
-  pub step-ready : (w : Bytes) (t : State) (v : Seen) (step : Step) → part text (s .at) len ≡ w → wordFault w ≡ 0 → t ≡ movedTo s (s .at + len + 1) → v ≡ seenIn text table reals t (s .at) len → step ≡ stepOf (t .phase) w room t v → Ready text table reals room s step
+  pub step-ready : (w : Bytes) (t : State) (v : Seen) (step : Step) → part text (s .at) len ≡ w → wordFault w ≡ 0 → t ≡ movedTo s (s .at + len + 1) → v ≡ seenIn text table reals t (s .at) w → step ≡ stepOf (t .phase) w room t v → Ready text table reals room s step
   step-ready w t v step p h q₁ q₂ q₃ = ready-done text table reals room s len step (step-stands text table reals room s len W w t v step p h q₁ q₂ q₃)
 
 -- a step from a later place is one from here
 pub later-ready : (text : Bytes) (table : List ℕ) (reals : List Float) (room : Settings) (s : State) (n : ℕ) (step : Step) → s .at ≤ n → Ready text table reals room (movedTo s n) step → Ready text table reals room s step
 later-ready text table reals room s n (to.Going t) h r = (r .0, (let l = r .1 in omega arith))
-later-ready text table reals room s n (to.Real x t) h r = (r .0, λ D q. (r .1 D q .0, (let l = r .1 D q .1 in omega arith)))
-later-ready text table reals room s n (to.Last x t) h r = (r .0, r .1, λ T D t′ p q l v. (r .2 T D t′ p q l v .0, (let m = r .2 T D t′ p q l v .1 in omega arith)))
+later-ready text table reals room s n (to.Real t x) h r = (r .0, λ D q. (r .1 D q .0, (let l = r .1 D q .1 in omega arith)))
+later-ready text table reals room s n (to.Last t x) h r = (r .0, r .1, λ T D t′ p q l v. (r .2 T D t′ p q l v .0, (let m = r .2 T D t′ p q l v .1 in omega arith)))
 later-ready text table reals room s n (to.Complete t) h r = (r .0, λ T t′ q l v. (r .1 T t′ q l v .0, (let m = r .1 T t′ q l v .1 in omega arith)))
 later-ready text table reals room s n (to.Refused c p) h r = r
 later-ready text table reals room s n to.Ended h r = r

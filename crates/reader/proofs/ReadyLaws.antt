@@ -175,20 +175,22 @@ module _ (text : Bytes) (table : List ℕ) (reals : List Float) (room : Settings
   small : (n : ℕ) → n ≤ 65536 → n ≡ clipped n
   small n h = omega arith
 
-  plain-seen : (u f : ℕ) → u ≤ 4096 → f ≤ 1024 → plain len u f ≡ seenBy table reals (s .at) len u f
+  plain-seen : (u f : ℕ) → u ≤ 4096 → f ≤ 1024 → plain (length w) u f ≡ seenBy table reals (s .at) (length w) u f
   plain-seen u f hu hf =
       let e = word-fits text table reals room s len W in
       let short = I .short in
-      λ i. record { place = s .at; name = small (s .at) (omega arith) i; size = small len (omega arith) i; used = small u (omega arith) i; found = small f (omega arith) i; source = draftIn table f; previous = back reals u 1; first = back reals u 2 }
+      let l = word-length text table reals room s len W in
+      λ i. record { place = s .at; name = small (s .at) (omega arith) i; size = small (length w) (omega arith) i; used = small u (omega arith) i; found = small f (omega arith) i; source = draftIn table f; previous = back reals u 1; first = back reals u 2 }
 
   -- what the step says of it
   abbrev Steps : ℕ → Phase → Seen → Type 0
   Steps n ph v = Goes (suc (s .at + n)) es ph (wordEnded room (s .at) w ph (I .places) es) (stepOf (image (suc (s .at + n)) d ph (I .places) .phase) w room (image (suc (s .at + n)) d ph (I .places)) v)
 
-  steps : wordFault w ≡ 0 → (ph : Phase) → ph ≡ I .phase → (u : ℕ) → u ≡ realsUsed d + length (openReals ph) → (f : ℕ) → f ≡ lookedFor (image (suc (s .at + len)) d ph (I .places) .phase) X → Steps len ph (seenBy table reals (s .at) len u f)
+  steps : wordFault w ≡ 0 → (ph : Phase) → ph ≡ I .phase → (u : ℕ) → u ≡ realsUsed d + length (openReals ph) → (f : ℕ) → f ≡ lookedFor (image (suc (s .at + len)) d ph (I .places) .phase) X → Steps len ph (seenBy table reals (s .at) (length w) u f)
   steps fine ph q u v f g =
-      subst (Steps len ph) (plain-seen u f (omega (arith, v, ap (λ (z : Phase). length (openReals z)) q, used-is text table reals room s I, used-room text table reals room s I .1)) few)
-      (subst (λ (n : ℕ). Steps n ph (plain n u f)) (word-length text table reals room s len W) (subst (λ (u : ℕ). Steps (length w) ph (plain (length w) u f)) (sym v)
+      subst (λ (n : ℕ). Steps n ph (seenBy table reals (s .at) (length w) u f)) (word-length text table reals room s len W)
+      (subst (Steps (length w) ph) (plain-seen u f (omega (arith, v, ap (λ (z : Phase). length (openReals z)) q, used-is text table reals room s I, used-room text table reals room s I .1)) few)
+      (subst (λ (u : ℕ). Steps (length w) ph (plain (length w) u f)) (sym v)
       (follows room es (I .places) (s .at) w (realsUsed d + length (openReals ph)) f (draftIn table f) (back reals (realsUsed d + length (openReals ph)) 1) (back reals (realsUsed d + length (openReals ph)) 2) ph (sees ph q f g) fine)))
     where
       few : f ≤ 1024
@@ -197,11 +199,11 @@ module _ (text : Bytes) (table : List ℕ) (reals : List Float) (room : Settings
   rows-is : latestIn text table w (min (length d) (length table / width)) ≡ X
   rows-is = ap (latestIn text table w) (in-rows text table reals room s I)
 
-  pub steps-as : wordFault w ≡ 0 → Stepped text table reals room s len (stepOf (s .phase) w room (movedTo s (s .at + len + 1)) (seenIn text table reals (movedTo s (s .at + len + 1)) (s .at) len))
+  pub steps-as : wordFault w ≡ 0 → Stepped text table reals room s len (stepOf (s .phase) w room (movedTo s (s .at + len + 1)) (seenIn text table reals (movedTo s (s .at + len + 1)) (s .at) w))
   unfolding isLookedUp
-  steps-as fine = record { stands = W; goes = subst (λ (t : State). Goes (suc (s .at + len)) es (I .phase) (wordEnded room (s .at) w (I .phase) (I .places) es) (stepOf (t .phase) w room t (seenIn text table reals t (s .at) len))) (sym (ap (movedTo s) (add-one (s .at + len)) ∙ moved-image text table reals room s I (suc (s .at + len)))) (go (I .phase) refl) }
+  steps-as fine = record { stands = W; goes = subst (λ (t : State). Goes (suc (s .at + len)) es (I .phase) (wordEnded room (s .at) w (I .phase) (I .places) es) (stepOf (t .phase) w room t (seenIn text table reals t (s .at) w))) (sym (ap (movedTo s) (add-one (s .at + len)) ∙ moved-image text table reals room s I (suc (s .at + len)))) (go (I .phase) refl) }
     where
-      go : (ph : Phase) → ph ≡ I .phase → Steps len ph (seenIn text table reals (image (suc (s .at + len)) d ph (I .places)) (s .at) len)
+      go : (ph : Phase) → ph ≡ I .phase → Steps len ph (seenIn text table reals (image (suc (s .at + len)) d ph (I .places)) (s .at) w)
       go idle q = steps fine idle q (realsUsed d) (sym (add-zero (realsUsed d))) _ rows-is
       go (busy m p) q = steps fine (busy m p) q (realsUsed d + length (partReals p)) refl _ (ap (lookedFor (phaseOf p)) rows-is)
 

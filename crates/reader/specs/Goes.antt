@@ -41,8 +41,8 @@ pub record Done (n : ℕ) (es : List Entry) (ph : Phase) (to : reading.State) (s
 -- a step, beside the definition's state `to` after the same word
 abbrev pub Goes : ℕ → List Entry → Phase → reading.State → Step → Type 0
 Goes n es ph to (step.Going s) = On n es ph to s []
-Goes n es ph to (step.Real x s) = On n es ph to s (x ∷ [])
-Goes n es ph to (step.Last x s) = Done n es ph to s (x ∷ [])
+Goes n es ph to (step.Real s x) = On n es ph to s (x ∷ [])
+Goes n es ph to (step.Last s x) = Done n es ph to s (x ∷ [])
 Goes n es ph to (step.Complete s) = Done n es ph to s []
 Goes n es ph to (step.Refused c p) = to ≡ stopped c p
 Goes n es ph to step.Ended = ⊥

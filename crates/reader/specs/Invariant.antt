@@ -79,9 +79,9 @@ endOf ph n = cond (isIdle ph) step.Ended (step.Refused 5 n)
 -- a step taken from state s: once it is done to the tables, reading has got on, or it ends
 abbrev pub Ready : Bytes → List ℕ → List Float → Settings → State → Step → Type 0
 Ready text table reals room s (step.Going t) = Inv text table reals room t × (s .at < t .at)
-Ready text table reals room s (step.Real x t) =
+Ready text table reals room s (step.Real t x) =
     (s .used < length reals) × ((D : List Float) → D ≡ set reals (s .used) x → Inv text table D room t × (s .at < t .at))
-Ready text table reals room s (step.Last x t) =
+Ready text table reals room s (step.Last t x) =
     (s .used < length reals) × (t .count ≤ 1024)
     × ((T : List ℕ) (D : List Float) (t′ : State) → D ≡ set reals (s .used) x → T ≡ enteredIn text table (t .count) (t .draft) → length T ≡ length table
     → t′ ≡ between (t .at) (t .count + 1) (t .used) → Inv text T D room t′ × (s .at < t′ .at))

@@ -51,7 +51,7 @@ fn word_step(
         return Step::Refused(fault as u32, at);
     }
     let t = statement::moved(s, at + len + 1);
-    let seen = linker::look(text, records, reals, t, at, len);
+    let seen = linker::look(text, records, reals, t, at, word);
     parser::advance(word, settings, t, seen)
 }
 
@@ -101,12 +101,12 @@ fn apply(
 {
     match step {
         Step::Going(t) => Turn::Going(t),
-        Step::Real(x, t) => {
+        Step::Real(t, x) => {
             let at = s.used;
             reals[at] = x;
             Turn::Going(t)
         }
-        Step::Last(x, t) => {
+        Step::Last(t, x) => {
             let at = s.used;
             reals[at] = x;
             let d = t.draft;

@@ -55,11 +55,11 @@ pub struct Seen {
 }
 
 // What a word comes to: the statement goes on, with a real to store or none; it is complete, with a last real or none; or the
-// text is refused. `Ended` is no word's: the text ends between two statements.
+// text is refused. `Ended` is no word's: the text ends between two statements. The state stands first, so at one place in each.
 pub enum Step {
     Going(State),
-    Real(f64, State),
-    Last(f64, State),
+    Real(State, f64),
+    Last(State, f64),
     Complete(State),
     Refused(u32, usize),
     Ended,

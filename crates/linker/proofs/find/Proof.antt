@@ -1,12 +1,12 @@
 -- `linker::find` meets its contract.
 use mathlib.Core.Logic.{_⊎_, inl, inr}
 use mathlib.Core.Path.{_≡_, refl, sym, ap, subst, _∙_}
-use Prim.Native.Nat.{ℕ, _+_, _-_, _/_, _≤_, _<_, min}
+use Prim.Native.Nat.{ℕ, _+_, _-_, _*_, _/_, _≤_, _<_, min}
 use native.Mathlib.Nat.{lt-irrefl, lt-of-lt-of-le}
 use native.Mathlib.Omega.{arith}
 use lib.ListN.{length, getD}
 use Rattle.laws.proofs.NatLaws.{le-or-lt}
-use Rattle.linker.proofs.LookupLaws.{find-short, find-fits, find-other, find-byte, find-hit, find-none}
+use Rattle.linker.proofs.LookupLaws.{find-short, find-sized, find-beyond, find-fits, find-byte, find-hit, find-none}
 use Rattle.linker.specs.Lookup.{latestIn}
 use Rattle.scene.specs.Record.{width}
 use borrow.Author.Needs.{needs}
@@ -14,10 +14,10 @@ use Rattle.linker.proofs.find.Statement.{statement}
 use Rattle.linker.proofs.find.Tie as tie
 
 abbrev Inv-loop : tie.InvT-loop
-Inv-loop text records count word len last n name size i₀ i = (i ≤ length word) × ((k : ℕ) → i ≤ k → k < length word → getD text (name + k) 0 ≡ getD word k 0)
+Inv-loop text records count word len last n size name i₀ i = (i ≤ length word) × ((k : ℕ) → i ≤ k → k < length word → getD text (name + k) 0 ≡ getD word k 0)
 
 abbrev μ-loop : tie.MeasureT-loop
-μ-loop text records count word len last n name size i₀ i = i
+μ-loop text records count word len last n size name i₀ i = i
 
 abbrev Inv-search : tie.InvT-search
 Inv-search text records count word len last n₀ n = (n ≤ min count (length records / width)) × (latestIn text records word (min count (length records / width)) ≡ latestIn text records word n)
@@ -66,6 +66,12 @@ shared-slice-read-wide c = search needs
 wide-requires : tie.Need-wide-requires Inv-loop μ-loop Inv-search μ-search
 wide-requires c κs = search needs
 
+search-less : tie.Need-search-less Inv-loop μ-loop Inv-search μ-search
+search-less c = search needs
+
+search-again : tie.Need-search-again Inv-loop μ-loop Inv-search μ-search
+search-again c = (search needs, (c .before .before .before .before .search) .inv .1 ∙ find-sized ((c .before .before .before .before .before .before .before .before .before .before .args) .text .now) ((c .before .before .before .before .before .before .before .before .before .before .args) .records .now) ((c .before .before .before .before .before .before .before .before .before .before .args) .word .now) ((c .before .before .before .before .before .before .if1) .left) _ refl ((c .before .before .before .before .search) .n) ((c .before .before .before .if2) .left) (getD ((c .before .before .before .before .before .before .before .before .before .before .args) .records .now) (((c .before .before .before .before .search) .n - 1) * width + 3) 0) _ refl ((c .before .wide) .ensures) ((c .if3) .taken))
+
 mul-wide-3 : tie.Need-mul-wide-3 Inv-loop μ-loop Inv-search μ-search
 mul-wide-3 c = search needs
 
@@ -81,47 +87,47 @@ shared-slice-read-wide-2 c = search needs
 wide-requires-2 : tie.Need-wide-requires-2 Inv-loop μ-loop Inv-search μ-search
 wide-requires-2 c κs = search needs
 
+search-less-2 : tie.Need-search-less-2 Inv-loop μ-loop Inv-search μ-search
+search-less-2 c = search needs
+
+search-again-2 : tie.Need-search-again-2 Inv-loop μ-loop Inv-search μ-search
+search-again-2 c = (search needs, (c .before .before .before .before .before .before .before .search) .inv .1 ∙ find-beyond ((c .before .before .before .before .before .before .before .before .before .before .before .before .before .args) .text .now) ((c .before .before .before .before .before .before .before .before .before .before .before .before .before .args) .records .now) ((c .before .before .before .before .before .before .before .before .before .before .before .before .before .args) .word .now) ((c .before .before .before .before .before .before .before .before .before .if1) .left) _ refl ((c .before .before .before .before .before .before .before .search) .n) ((c .before .before .before .before .before .before .if2) .left) _ _ ((c .before .wide2) .ensures) ((c .before .before .before .before .wide) .ensures) ((c .if4) .taken))
+
 loop-holds : tie.Need-loop-holds Inv-loop μ-loop Inv-search μ-search
 loop-holds c = (search needs, λ k a b. absurd (lt-irrefl k (lt-of-lt-of-le b a)))
 
 sub-i : tie.Need-sub-i Inv-loop μ-loop Inv-search μ-search
 sub-i c = search needs
 
-add-if4 : tie.Need-add-if4 Inv-loop μ-loop Inv-search μ-search
-add-if4 c = omega (arith, find-fits ((c .before .before .before .before .before .before .before .before .before .before .before .before .before .before .args) .text .now) ((c .before .before .before .before .before .before .before .before .before .before .before .before .before .before .args) .records .now) ((c .before .before .before .before .before .before .before .before .before .before .before .before .before .before .args) .word .now) ((c .before .before .before .before .before .before .before .before .before .before .if1) .left) _ refl _ ((c .before .before .before .before .before .before .before .if2) .left) _ _ ((c .before .before .before .before .before .wide) .ensures) ((c .before .before .before .wide2) .ensures) ((c .before .before .if3) .taken) .1, find-fits ((c .before .before .before .before .before .before .before .before .before .before .before .before .before .before .args) .text .now) ((c .before .before .before .before .before .before .before .before .before .before .before .before .before .before .args) .records .now) ((c .before .before .before .before .before .before .before .before .before .before .before .before .before .before .args) .word .now) ((c .before .before .before .before .before .before .before .before .before .before .if1) .left) _ refl _ ((c .before .before .before .before .before .before .before .if2) .left) _ _ ((c .before .before .before .before .before .wide) .ensures) ((c .before .before .before .wide2) .ensures) ((c .before .before .if3) .taken) .0)
+add-if5 : tie.Need-add-if5 Inv-loop μ-loop Inv-search μ-search
+add-if5 c = omega (arith, find-fits ((c .before .before .before .before .before .before .before .before .before .before .before .before .before .before .before .args) .text .now) ((c .before .before .before .before .before .before .before .before .before .before .before .before .before .before .before .args) .records .now) ((c .before .before .before .before .before .before .before .before .before .before .before .before .before .before .before .args) .word .now) ((c .before .before .before .before .before .before .before .before .before .before .before .if1) .left) _ refl ((c .before .before .before .before .before .before .before .before .before .search) .n) ((c .before .before .before .before .before .before .before .before .if2) .left) _ _ ((c .before .before .before .wide2) .ensures) ((c .before .before .before .before .before .before .wide) .ensures) ((c .before .before .before .before .before .if3) .left) ((c .before .before .if4) .left))
 
-shared-slice-read-if4 : tie.Need-shared-slice-read-if4 Inv-loop μ-loop Inv-search μ-search
-shared-slice-read-if4 c = omega (arith, find-fits ((c .before .before .before .before .before .before .before .before .before .before .before .before .before .before .before .args) .text .now) ((c .before .before .before .before .before .before .before .before .before .before .before .before .before .before .before .args) .records .now) ((c .before .before .before .before .before .before .before .before .before .before .before .before .before .before .before .args) .word .now) ((c .before .before .before .before .before .before .before .before .before .before .before .if1) .left) _ refl _ ((c .before .before .before .before .before .before .before .before .if2) .left) _ _ ((c .before .before .before .before .before .before .wide) .ensures) ((c .before .before .before .before .wide2) .ensures) ((c .before .before .before .if3) .taken) .1, find-fits ((c .before .before .before .before .before .before .before .before .before .before .before .before .before .before .before .args) .text .now) ((c .before .before .before .before .before .before .before .before .before .before .before .before .before .before .before .args) .records .now) ((c .before .before .before .before .before .before .before .before .before .before .before .before .before .before .before .args) .word .now) ((c .before .before .before .before .before .before .before .before .before .before .before .if1) .left) _ refl _ ((c .before .before .before .before .before .before .before .before .if2) .left) _ _ ((c .before .before .before .before .before .before .wide) .ensures) ((c .before .before .before .before .wide2) .ensures) ((c .before .before .before .if3) .taken) .0)
+shared-slice-read-if5 : tie.Need-shared-slice-read-if5 Inv-loop μ-loop Inv-search μ-search
+shared-slice-read-if5 c = omega (arith, find-fits ((c .before .before .before .before .before .before .before .before .before .before .before .before .before .before .before .before .args) .text .now) ((c .before .before .before .before .before .before .before .before .before .before .before .before .before .before .before .before .args) .records .now) ((c .before .before .before .before .before .before .before .before .before .before .before .before .before .before .before .before .args) .word .now) ((c .before .before .before .before .before .before .before .before .before .before .before .before .if1) .left) _ refl ((c .before .before .before .before .before .before .before .before .before .before .search) .n) ((c .before .before .before .before .before .before .before .before .before .if2) .left) _ _ ((c .before .before .before .before .wide2) .ensures) ((c .before .before .before .before .before .before .before .wide) .ensures) ((c .before .before .before .before .before .before .if3) .left) ((c .before .before .before .if4) .left))
 
-shared-slice-read-if4-2 : tie.Need-shared-slice-read-if4-2 Inv-loop μ-loop Inv-search μ-search
-shared-slice-read-if4-2 c = search needs
+shared-slice-read-if5-2 : tie.Need-shared-slice-read-if5-2 Inv-loop μ-loop Inv-search μ-search
+shared-slice-read-if5-2 c = search needs
 
-search-less : tie.Need-search-less Inv-loop μ-loop Inv-search μ-search
-search-less c = search needs
+search-less-3 : tie.Need-search-less-3 Inv-loop μ-loop Inv-search μ-search
+search-less-3 c = search needs
 
-search-again : tie.Need-search-again Inv-loop μ-loop Inv-search μ-search
-search-again c = (search needs, (c .before .before .before .before .before .before .before .before .before .before .before .search) .inv .1 ∙ find-byte ((c .before .before .before .before .before .before .before .before .before .before .before .before .before .before .before .before .before .args) .text .now) ((c .before .before .before .before .before .before .before .before .before .before .before .before .before .before .before .before .before .args) .records .now) ((c .before .before .before .before .before .before .before .before .before .before .before .before .before .before .before .before .before .args) .word .now) ((c .before .before .before .before .before .before .before .before .before .before .before .before .before .if1) .left) _ refl _ ((c .before .before .before .before .before .before .before .before .before .before .if2) .left) _ _ ((c .before .before .before .before .before .before .before .before .wide) .ensures) ((c .before .before .before .before .before .before .wide2) .ensures) ((c .before .before .before .before .before .if3) .taken) _ (one-less _ _ ((c .before .before .before .loop-test) .taken) ((c .before .before .before .before .loop) .inv .0)) ((c .if4) .taken))
+search-again-3 : tie.Need-search-again-3 Inv-loop μ-loop Inv-search μ-search
+search-again-3 c = (search needs, (c .before .before .before .before .before .before .before .before .before .before .before .before .search) .inv .1 ∙ find-byte ((c .before .before .before .before .before .before .before .before .before .before .before .before .before .before .before .before .before .before .args) .text .now) ((c .before .before .before .before .before .before .before .before .before .before .before .before .before .before .before .before .before .before .args) .records .now) ((c .before .before .before .before .before .before .before .before .before .before .before .before .before .before .before .before .before .before .args) .word .now) ((c .before .before .before .before .before .before .before .before .before .before .before .before .before .before .if1) .left) _ refl ((c .before .before .before .before .before .before .before .before .before .before .before .before .search) .n) ((c .before .before .before .before .before .before .before .before .before .before .before .if2) .left) _ _ ((c .before .before .before .before .before .before .wide2) .ensures) ((c .before .before .before .before .before .before .before .before .before .wide) .ensures) ((c .before .before .before .before .before .before .before .before .if3) .left) ((c .before .before .before .before .before .if4) .left) _ (one-less _ _ ((c .before .before .before .loop-test) .taken) ((c .before .before .before .before .loop) .inv .0)) ((c .if5) .taken))
 
 loop-less : tie.Need-loop-less Inv-loop μ-loop Inv-search μ-search
 loop-less c = search needs
 
 loop-again : tie.Need-loop-again Inv-loop μ-loop Inv-search μ-search
-loop-again c = (search needs, one-more _ _ _ ((c .before .before .before .loop-test) .taken) ((c .before .before .before .before .loop) .inv .1) ((c .if4) .left))
+loop-again c = (search needs, one-more _ _ _ ((c .before .before .before .loop-test) .taken) ((c .before .before .before .before .loop) .inv .1) ((c .if5) .left))
 
 add-found : tie.Need-add-found Inv-loop μ-loop Inv-search μ-search
 add-found c = search needs
-
-search-less-2 : tie.Need-search-less-2 Inv-loop μ-loop Inv-search μ-search
-search-less-2 c = search needs
-
-search-again-2 : tie.Need-search-again-2 Inv-loop μ-loop Inv-search μ-search
-search-again-2 c = (search needs, (c .before .before .before .before .before .before .search) .inv .1 ∙ find-other ((c .before .before .before .before .before .before .before .before .before .before .before .before .args) .text .now) ((c .before .before .before .before .before .before .before .before .before .before .before .before .args) .records .now) ((c .before .before .before .before .before .before .before .before .before .before .before .before .args) .word .now) ((c .before .before .before .before .before .before .before .before .if1) .left) _ refl _ ((c .before .before .before .before .before .if2) .left) _ _ ((c .before .before .before .wide) .ensures) ((c .before .wide2) .ensures) ((c .if3) .left))
 
 returns-2 : tie.Need-returns-2 Inv-loop μ-loop Inv-search μ-search
 returns-2 c = sym ((c .before .search) .inv .1 ∙ ap (latestIn _ _ _) ((c .if2) .taken) ∙ find-none _ _ _)
 
 returns-3 : tie.Need-returns-3 Inv-loop μ-loop Inv-search μ-search
-returns-3 c = (let e : (c .before .before .before .before .before .before .before .before .search) .n - 1 + 1 ≡ (c .before .before .before .before .before .before .before .before .search) .n = omega (arith, (c .before .before .before .before .before .before .before .if2) .left) in e) ∙ sym ((c .before .before .before .before .before .before .before .before .search) .inv .1 ∙ find-hit ((c .before .before .before .before .before .before .before .before .before .before .before .before .before .before .args) .text .now) ((c .before .before .before .before .before .before .before .before .before .before .before .before .before .before .args) .records .now) ((c .before .before .before .before .before .before .before .before .before .before .before .before .before .before .args) .word .now) ((c .before .before .before .before .before .before .before .before .before .before .if1) .left) _ refl _ ((c .before .before .before .before .before .before .before .if2) .left) _ _ ((c .before .before .before .before .before .wide) .ensures) ((c .before .before .before .wide2) .ensures) ((c .before .before .if3) .taken) (λ k l. (c .before .loop) .inv .1 k (omega (arith, (c .loop-test) .left)) l))
+returns-3 c = (let e : (c .before .before .before .before .before .before .before .before .before .search) .n - 1 + 1 ≡ (c .before .before .before .before .before .before .before .before .before .search) .n = omega (arith, (c .before .before .before .before .before .before .before .before .if2) .left) in e) ∙ sym ((c .before .before .before .before .before .before .before .before .before .search) .inv .1 ∙ find-hit ((c .before .before .before .before .before .before .before .before .before .before .before .before .before .before .before .args) .text .now) ((c .before .before .before .before .before .before .before .before .before .before .before .before .before .before .before .args) .records .now) ((c .before .before .before .before .before .before .before .before .before .before .before .before .before .before .before .args) .word .now) ((c .before .before .before .before .before .before .before .before .before .before .before .if1) .left) _ refl ((c .before .before .before .before .before .before .before .before .before .search) .n) ((c .before .before .before .before .before .before .before .before .if2) .left) _ _ ((c .before .before .before .wide2) .ensures) ((c .before .before .before .before .before .before .wide) .ensures) ((c .before .before .before .before .before .if3) .left) ((c .before .before .if4) .left) (λ k l. (c .before .loop) .inv .1 k (omega (arith, (c .loop-test) .left)) l))
 
 pub find-spec : {M : Type 1} → statement M
 find-spec =
@@ -141,22 +147,24 @@ find-spec =
     mul-wide-2
     shared-slice-read-wide
     wide-requires
+    search-less
+    search-again
     mul-wide-3
     add-wide-2
     mul-wide-4
     shared-slice-read-wide-2
     wide-requires-2
+    search-less-2
+    search-again-2
     loop-holds
     sub-i
-    add-if4
-    shared-slice-read-if4
-    shared-slice-read-if4-2
-    search-less
-    search-again
+    add-if5
+    shared-slice-read-if5
+    shared-slice-read-if5-2
+    search-less-3
+    search-again-3
     loop-less
     loop-again
     add-found
-    search-less-2
-    search-again-2
     returns-2
     returns-3)

@@ -1,17 +1,9 @@
 -- `linker::look` meets its contract.
 use mathlib.Core.Path.{ap, _∙_}
-use Prim.Native.Nat.{_/_, min}
-use lib.ListN.{length}
-use Rattle.laws.specs.Bytes.{Bytes}
-use Rattle.linker.specs.Lookup.{latestIn}
-use Rattle.linker.specs.Seen.{clipped, draftIn, lookedFor}
-use Rattle.scene.specs.Record.{width}
+use Rattle.linker.specs.Seen.{clipped, draftIn}
 use borrow.Author.Needs.{needs}
 use Rattle.linker.proofs.look.Statement.{statement}
 use Rattle.linker.proofs.look.Tie as tie
-
-part-requires : tie.Need-part-requires
-part-requires c κs = search needs
 
 look-up-requires : tie.Need-look-up-requires
 look-up-requires c κs = search needs
@@ -38,13 +30,12 @@ back-requires-2 : tie.Need-back-requires-2
 back-requires-2 c κs = search needs
 
 returns : tie.Need-returns
-returns c = let l = ((c .before .before .before .before .before .before .before .look-up) .ensures ∙ ap (λ (w : Bytes). lookedFor ((c .before .before .before .before .before .before .before .before .before .before .before .before .args) .s .phase) (latestIn ((c .before .before .before .before .before .before .before .before .before .before .before .before .args) .text .now) ((c .before .before .before .before .before .before .before .before .before .before .before .before .args) .records .now) w (min ((c .before .before .before .before .before .before .before .before .before .before .before .before .args) .s .count) (length ((c .before .before .before .before .before .before .before .before .before .before .before .before .args) .records .now) / width)))) ((c .before .before .before .before .before .before .before .before .part) .ensures)) in λ i. record { place = (c .before .before .before .before .before .before .before .before .before .before .before .before .args) .place; name = (c .before .before .before .before .before .before .narrow) .ensures i; size = (c .before .before .before .before .before .narrow2) .ensures i; used = (c .before .before .before .before .narrow3) .ensures i; found = ((c .before .before .before .narrow4) .ensures ∙ ap clipped l) i; source = ((c .before .before .source-of) .ensures ∙ ap (draftIn ((c .before .before .before .before .before .before .before .before .before .before .before .before .args) .records .now)) l) i; previous = (c .before .back) .ensures i; first = (c .back2) .ensures i }
+returns c = let l = (c .before .before .before .before .before .before .before .look-up) .ensures in λ i. record { place = (c .before .before .before .before .before .before .before .before .before .before .before .before .args) .place; name = (c .before .before .before .before .before .before .narrow) .ensures i; size = (c .before .before .before .before .before .narrow2) .ensures i; used = (c .before .before .before .before .narrow3) .ensures i; found = ((c .before .before .before .narrow4) .ensures ∙ ap clipped l) i; source = ((c .before .before .source-of) .ensures ∙ ap (draftIn ((c .before .before .before .before .before .before .before .before .before .before .before .before .args) .records .now)) l) i; previous = (c .before .back) .ensures i; first = (c .back2) .ensures i }
 
 pub look-spec : {M : Type 1} → statement M
 look-spec =
     tie.close
     (tie.spec
-    part-requires
     look-up-requires
     narrow-requires
     narrow-requires-2

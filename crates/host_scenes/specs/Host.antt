@@ -1,0 +1,41 @@
+-- What a host program is told of scenes: a number for the kind of answer, and the answer's values in a small array.
+use mathlib.Core.Bool.{cond}
+use mathlib.Core.List.{List, [], _∷_}
+use mathlib.Core.Path.{_≡_}
+use Prim.Native.Nat.{ℕ}
+use lib.Dec.{eqb}
+use lib.Ieee.{Float}
+use lib.ListN.{length}
+use Rattle.finish.specs.Question.{nameRefusal}
+use Rattle.finish.specs.Walk.{finishOf, numbersOf}
+use Rattle.laws.specs.Bytes.{Bytes}
+use Rattle.lexer.specs.Word.{wordAt}
+use Rattle.reader.specs.Answer.{readInto}
+use Rattle.scene.specs.Record as scene
+use Rattle.scene.specs.Record.{recordIn, recordImage, realImage}
+
+-- ---- the reader: its reason, or 0; place, primitives, reals; and both tables
+
+pub record HostReads (text : Bytes) (records : List ℕ) (reals : List Float) (r : ℕ) (out : List ℕ) (records′ : List ℕ) (reals′ : List Float) : Type 0 where
+  pub says : r ≡ scene.answer (readInto text records reals) .reason
+  pub numbers : let a = scene.answer (readInto text records reals) in out ≡ a .place ∷ a .primitives ∷ a .reals ∷ []
+  pub table : records′ ≡ recordImage (length records) (readInto text records reals)
+  pub doubles : reals′ ≡ realImage (length reals) (readInto text records reals)
+
+-- ---- questions to a finished table
+
+-- place and length of a name in the text; 0 and 0 where it is refused
+unfoldable pub namePart : Bytes → (table : List ℕ) (count number : ℕ) → List ℕ
+namePart text table count n = cond (eqb (nameRefusal text table count n) 0) (recordIn table n .name ∷ recordIn table n .nameLength ∷ []) (0 ∷ 0 ∷ [])
+
+-- the walk's reason, or 0; the primitive and the links
+abbrev pub finishReason : List ℕ → (count number allowance : ℕ) → ℕ
+finishReason table count n allowance = numbersOf (finishOf table count n allowance) .reason
+
+abbrev pub finishValues : List ℕ → (count number allowance : ℕ) → List ℕ
+finishValues table count n allowance = let f = numbersOf (finishOf table count n allowance) in f .primitive ∷ f .links ∷ []
+
+-- ---- words: place and length
+
+abbrev pub wordValues : Bytes → (at : ℕ) → List ℕ
+wordValues text at = wordAt text at .place ∷ wordAt text at .len ∷ []

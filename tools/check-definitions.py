@@ -31,8 +31,8 @@ def numbers(ns):
 
 count = int(sys.argv[1]) if len(sys.argv) > 1 else 400
 seed = int(sys.argv[2]) if len(sys.argv) > 2 else 1
-opened = (TOP / "crates/scene/proofs/SampleLaws.antt").read_text()
-uses = [line for line in opened.split("\n") if line.startswith("use ") and "·proofs" not in line]
+opened = (TOP / "crates/samples/proofs/SampleLaws.antt").read_text()
+uses = [line for line in opened.split("\n") if line.startswith("use ") and "proofs" not in line and "samples" not in line]
 names = [line[len("unfolding ") :] for line in opened.split("\n") if line.startswith("unfolding ")][:2]
 rows, reasons = [], collections.Counter()
 for k, (text, records, reals) in enumerate(texts.texts(seed, count, 3)):
@@ -51,11 +51,11 @@ with tempfile.TemporaryDirectory() as folder:
     (crate / "src" / "lib.rt").write_text("// Rows computed from the definitions.\n")
     (crate / "specs" / "Lib.antt").write_text("pub mod Rows\n")
     head = [line.replace("Rattle.scene.specs", "Rattle.scene") for line in uses]
-    head += ["use lib.Ieee.{binary64, toBits}", "use Rattle.scene.specs.Record.{answer, flat, fields}", "use Rattle.scene.specs.Settings.{Settings}"]
+    head += ["use mathlib.Core.List.{map}", "use lib.Ieee.{binary64, toBits}", "use Rattle.scene.specs.Record.{answer, flat, fields}", "use Rattle.scene.specs.declared.Settings.{Settings}"]
     everything = "everything : ℕ\nunfolding " + names[0] + " " + names[1].replace("readings ", "") + " flat toBits\neverything = 0\n"
     facts = (
         "facts : Settings → Bytes → List ℕ\n"
-        "facts r t = let x = read r t in let a = answer x in a .reason ∷ a .place ∷ a .primitives ∷ a .reals ∷ flat (records (entries x)) ++ map (toBits binary64) (realTable (entries x))\n"
+        "facts r t = let x = read r t in let a = answer x in a .reason ∷ a .place ∷ a .primitives ∷ a .reals ∷ flat t (records (entries x)) ++ map (toBits binary64) (realTable (entries x))\n"
     )
     (crate / "specs" / "Rows.antt").write_text("\n".join(head) + "\n\n" + everything + "\n" + facts + "\n" + "\n".join(rows))
     with (copy / "crates.txt").open("a") as f:

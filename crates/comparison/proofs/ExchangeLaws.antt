@@ -92,5 +92,5 @@ module _ (r : Settings) (p a b q : Bytes) (es : List Entry) (x : Exchange r p a 
   compare-exchange = compare-renumbered old new (exchangeShift es p a b) keys often rows
 
   -- also read afresh into tables of any sizes, where those of the records are lent up to the last one
-  pub fresh-exchange : (n k m j : ℕ) → compared (sceneRows (p ++ a ++ b ++ q) (take (length es * width) (recordImage n (read r (p ++ a ++ b ++ q)))) (realImage k (read r (p ++ a ++ b ++ q)))) (sceneRows (p ++ b ++ a ++ q) (take (length es′ * width) (recordImage m (read r (p ++ b ++ a ++ q)))) (realImage j (read r (p ++ b ++ a ++ q)))) ≡ []
+  pub fresh-exchange : (n k m j : ℕ) → compared (sceneRows (p ++ a ++ b ++ q) (take (length es * width) (recordImage (p ++ a ++ b ++ q) n (read r (p ++ a ++ b ++ q)))) (realImage k (read r (p ++ a ++ b ++ q)))) (sceneRows (p ++ b ++ a ++ q) (take (length es′ * width) (recordImage (p ++ b ++ a ++ q) m (read r (p ++ b ++ a ++ q)))) (realImage j (read r (p ++ b ++ a ++ q)))) ≡ []
   fresh-exchange n k m j = (λ i. compared (scene-read r (p ++ a ++ b ++ q) es (x .reads) n k i) (scene-read r (p ++ b ++ a ++ q) es′ reads′ m j i)) ∙ compare-exchange

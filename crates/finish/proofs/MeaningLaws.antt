@@ -184,35 +184,35 @@ own-type r text es reads later s earlier q = go (s .body) refl
     go (alias x) b = let h = subst (λ (z : Body). NoSurface (typeIn (ownBody z earlier))) b (alias-type r text es reads later s earlier q x b) in (omega (arith, h .0), h .1)
 
 module _ (r : Settings) (text : Bytes) (es : List Entry) (reads : read r text ≡ accepted es) (m : ℕ) (l : List Entry) (e : Entry) (x : List Entry) (q : es ≡ l ++ e ∷ x) where
-  image-row : (n : ℕ) → recordIn (recordImage m (read r text)) n ≡ nth (records es) n
+  image-row : (n : ℕ) → recordIn (recordImage text m (read r text)) n ≡ nth (records es) n
   unfolding recordImage
-  image-row n = ap (λ (z : Reading). recordIn (recordImage m z) n) reads ∙ record-in (records es) m n
+  image-row n = ap (λ (z : Reading). recordIn (recordImage text m z) n) reads ∙ record-in text (records es) m n
 
   -- the walk from a primitive of the table, with an allowance of all before it, is the walk from its statement
-  pub walk-means : (left k : ℕ) → length x ≤ left → walkFrom (viewOf (recordImage m (read r text))) left k (suc (length x)) ≡ finishIn (e .statement .modifier) (statements x) k
-  walk-means left k h = walk-from es (recordImage m (read r text)) image-row (accepted-linked r text es reads) (own-type r text es reads) left k l e x q h
+  pub walk-means : (left k : ℕ) → length x ≤ left → walkFrom (viewOf (recordImage text m (read r text))) left k (suc (length x)) ≡ finishIn (e .statement .modifier) (statements x) k
+  walk-means left k h = walk-from es (recordImage text m (read r text)) image-row (accepted-linked r text es reads) (own-type r text es reads) left k l e x q h
 
-  image-length : length es * width ≤ length (recordImage m (read r text))
+  image-length : length es * width ≤ length (recordImage text m (read r text))
   unfolding recordImage records
-  image-length = subst (λ (z : Reading). length es * width ≤ length (recordImage m z)) (sym reads) (omega (arith, length-append (flat (records es)) (replicate (m - length (flat (records es))) 0), flat-length (records es), records-length [] es))
+  image-length = subst (λ (z : Reading). length es * width ≤ length (recordImage text m z)) (sym reads) (omega (arith, length-append (flat text (records es)) (replicate (m - length (flat text (records es))) 0), flat-length text (records es), records-length [] es))
 
   -- a primitive of the table can be asked about, where the room was document 01's
-  number-fine : r .records ≤ 1024 → numberRefusal (recordImage m (read r text)) (length es) (suc (length x)) ≡ 0
+  number-fine : r .records ≤ 1024 → numberRefusal (recordImage text m (read r text)) (length es) (suc (length x)) ≡ 0
   unfolding numberRefusal
-  number-fine c = rw (le-leb (length es) 1024 few, le-leb (length es * width) (length (recordImage m (read r text))) image-length, le-leb 1 (suc (length x)) (omega arith), le-leb (suc (length x)) (length es) (omega (arith, ap length q, length-append l (e ∷ x))))
+  number-fine c = rw (le-leb (length es) 1024 few, le-leb (length es * width) (length (recordImage text m (read r text))) image-length, le-leb 1 (suc (length x)) (omega arith), le-leb (suc (length x)) (length es) (omega (arith, ap length q, length-append l (e ∷ x))))
     where
       few : length es ≤ 1024
       few = omega (arith, fit-forth r (statements es) ((accept-forth r text es reads) .2) .1, statements-length es)
 
   -- the question's answer is the walk from its statement
-  pub finish-means : (allowance : ℕ) → r .records ≤ 1024 → length x ≤ allowance → finishOf (recordImage m (read r text)) (length es) (suc (length x)) allowance ≡ finishIn (e .statement .modifier) (statements x) 0
+  pub finish-means : (allowance : ℕ) → r .records ≤ 1024 → length x ≤ allowance → finishOf (recordImage text m (read r text)) (length es) (suc (length x)) allowance ≡ finishIn (e .statement .modifier) (statements x) 0
   unfolding finishOf
   finish-means allowance c h = rw (number-fine c) (walk-means allowance 0 h)
 
 -- the same of the tables lent to the reader; it refuses nothing
 module _ (text : Bytes) (lent doubles : ℕ) (es : List Entry) (reads : read (settingsFor lent doubles) text ≡ accepted es) (l : List Entry) (e : Entry) (x : List Entry) (q : es ≡ l ++ e ∷ x) (allowance : ℕ) (enough : length x ≤ allowance) where
-  pub finish-read : finishOf (recordImage lent (read (settingsFor lent doubles) text)) (length es) (suc (length x)) allowance ≡ finishIn (e .statement .modifier) (statements x) 0
+  pub finish-read : finishOf (recordImage text lent (read (settingsFor lent doubles) text)) (length es) (suc (length x)) allowance ≡ finishIn (e .statement .modifier) (statements x) 0
   finish-read = finish-means (settingsFor lent doubles) text es reads lent l e x q allowance (min-le-left 1024 (lent / width)) enough
 
-  pub finish-accepts : numbersOf (finishOf (recordImage lent (read (settingsFor lent doubles) text)) (length es) (suc (length x)) allowance) .reason ≡ 0
+  pub finish-accepts : numbersOf (finishOf (recordImage text lent (read (settingsFor lent doubles) text)) (length es) (suc (length x)) allowance) .reason ≡ 0
   finish-accepts = ap (λ (f : Finish). numbersOf f .reason) finish-read ∙ finish-reaches (e .statement .modifier) (statements x) 0

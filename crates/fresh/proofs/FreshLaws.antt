@@ -33,23 +33,23 @@ module _ (table : List ℕ) (doubles : List Float) (text : Bytes) (xs : List ℕ
       let b : min 4096 (length ys) ≡ min 4096 (length doubles) = omega arith in
       λ i. read (record { records = a i; reals = b i }) text
 
-  same-numbers : filled 0 (length table) (recordImage (length xs) x) ≡ recordImage (length table) x
+  same-numbers : filled 0 (length table) (recordImage text (length xs) x) ≡ recordImage text (length table) x
   unfolding recordImage
-  same-numbers = filled-more 0 (length xs) (flat (records (entries x))) (used-numbers (length xs) (length ys) text x refl) (length table) (omega arith)
+  same-numbers = filled-more 0 (length xs) (flat text (records (entries x))) (used-numbers (length xs) (length ys) text x refl) (length table) (omega arith)
 
   same-doubles : filled zeroReal (length doubles) (realImage (length ys) x) ≡ realImage (length doubles) x
   unfolding realImage
   same-doubles = filled-more zeroReal (length ys) (realTable (entries x)) (used-reals (length xs) (length ys) text x refl) (length doubles) (omega arith)
 
-  pub tables-refused : (n p : ℕ) → Reads text xs ys (reader.Refused n p) xs′ ys′ → Refused n p ≡ freshOf table doubles (readInto text table doubles)
-  tables-refused n p h = ap (freshOf table doubles) (sym (refused-as x n p (h .says)) ∙ same-reading)
+  pub tables-refused : (n p : ℕ) → Reads text xs ys (reader.Refused n p) xs′ ys′ → Refused n p ≡ freshOf text table doubles (readInto text table doubles)
+  tables-refused n p h = ap (freshOf text table doubles) (sym (refused-as x n p (h .says)) ∙ same-reading)
 
-  pub tables-compared : (n k : ℕ) → Reads text xs ys (reader.Accepted n k) xs′ ys′ → (a b t : Bool) → a ≡ same table (filled 0 (length table) xs′) → b ≡ sameReals doubles (filled zeroReal (length doubles) ys′) → (a && b) ≡ t → cond t (Same n) (Refused 22 0) ≡ freshOf table doubles (readInto text table doubles)
+  pub tables-compared : (n k : ℕ) → Reads text xs ys (reader.Accepted n k) xs′ ys′ → (a b t : Bool) → a ≡ same table (filled 0 (length table) xs′) → b ≡ sameReals doubles (filled zeroReal (length doubles) ys′) → (a && b) ≡ t → cond t (Same n) (Refused 22 0) ≡ freshOf text table doubles (readInto text table doubles)
   unfolding tablesMatch
   tables-compared n k h a b t p q e =
       let c = accepted-as x n k (h .says) in
-      let u : a ≡ same table (recordImage (length table) x) = p ∙ ap (same table) (ap (filled 0 (length table)) (h .table) ∙ same-numbers) in
+      let u : a ≡ same table (recordImage text (length table) x) = p ∙ ap (same table) (ap (filled 0 (length table)) (h .table) ∙ same-numbers) in
       let v : b ≡ sameReals doubles (realImage (length doubles) x) = q ∙ ap (sameReals doubles) (ap (filled zeroReal (length doubles)) (h .doubles) ∙ same-doubles) in
       ap (λ (s : Bool). cond s (Same n) (Refused 22 0)) (sym e ∙ (λ i. u i && v i))
-      ∙ (λ i. cond (tablesMatch table doubles (c .reads i)) (Same (c .primitives i)) (Refused 22 0))
-      ∙ ap (freshOf table doubles) (sym (c .reads) ∙ same-reading)
+      ∙ (λ i. cond (tablesMatch text table doubles (c .reads i)) (Same (c .primitives i)) (Refused 22 0))
+      ∙ ap (freshOf text table doubles) (sym (c .reads) ∙ same-reading)

@@ -63,7 +63,7 @@ fn same_reals(table: &[f64], fresh: &[f64]) -> bool
 
 // Reads the text afresh, at the sizes of the lent tables, and compares them.
 pub fn compare(text: &[u8], records: &[u32], reals: &[f64]) -> Fresh
-    ensures { λ r. ⌜ r ≡ freshOf (now (records .entry)) (now (reals .entry)) (readInto (now (text .entry)) (now (records .entry)) (now (reals .entry))) ⌝ }
+    ensures { λ r. ⌜ r ≡ freshOf (now (text .entry)) (now (records .entry)) (now (reals .entry)) (readInto (now (text .entry)) (now (records .entry)) (now (reals .entry))) ⌝ }
 {
     let mut fresh_records = [0u32; table::MOST_NUMBERS];
     let mut fresh_reals = [0.0f64; table::MOST_REALS];

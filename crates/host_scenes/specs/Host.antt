@@ -19,7 +19,7 @@ use Rattle.scene.specs.Record.{recordIn, recordImage, realImage}
 pub record HostReads (text : Bytes) (records : List ℕ) (reals : List Float) (r : ℕ) (out : List ℕ) (records′ : List ℕ) (reals′ : List Float) : Type 0 where
   pub says : r ≡ scene.answer (readInto text records reals) .reason
   pub numbers : let a = scene.answer (readInto text records reals) in out ≡ a .place ∷ a .primitives ∷ a .reals ∷ []
-  pub table : records′ ≡ recordImage (length records) (readInto text records reals)
+  pub table : records′ ≡ recordImage text (length records) (readInto text records reals)
   pub doubles : reals′ ≡ realImage (length reals) (readInto text records reals)
 
 -- ---- questions to a finished table

@@ -53,30 +53,30 @@ module _ (r : Settings) (text : Bytes) (es : List Entry) (reads : read r text �
   row-full k h = subst (λ (t : Told). length (t .reals) ≡ t .realCount) (sym (row-told k (at es k h))) refl
 
   module _ (lent doubles : ℕ) where
-    rows-to : (n : ℕ) → n ≤ length es → rowsIn text (recordImage lent (accepted es)) (realImage doubles (accepted es)) n ≡ rowsTo text es n
+    rows-to : (n : ℕ) → n ≤ length es → rowsIn text (recordImage text lent (accepted es)) (realImage doubles (accepted es)) n ≡ rowsTo text es n
     unfolding rowsIn rowsTo recordImage realImage
     rows-to zero h = refl
-    rows-to (suc n) h = λ i. (ap (tells text (realImage doubles (accepted es))) (record-in (records es) lent (suc n)) ∙ tells-padded text (realTable es) (replicate (doubles - length (realTable es)) zeroReal) (nth (records es) (suc n)) (row-full n h)) i ∷ rows-to n (omega arith) i
+    rows-to (suc n) h = λ i. (ap (tells text (realImage doubles (accepted es))) (record-in text (records es) lent (suc n)) ∙ tells-padded text (realTable es) (replicate (doubles - length (realTable es)) zeroReal) (nth (records es) (suc n)) (row-full n h)) i ∷ rows-to n (omega arith) i
 
     -- the rows of a text read into tables of any sizes
-    pub rows-read : rowsIn text (recordImage lent (read r text)) (realImage doubles (read r text)) (length es) ≡ rowsOf text es
-    rows-read = ap (λ (x : Reading). rowsIn text (recordImage lent x) (realImage doubles x) (length es)) reads ∙ rows-to (length es) (omega arith)
+    pub rows-read : rowsIn text (recordImage text lent (read r text)) (realImage doubles (read r text)) (length es) ≡ rowsOf text es
+    rows-read = ap (λ (x : Reading). rowsIn text (recordImage text lent x) (realImage doubles x) (length es)) reads ∙ rows-to (length es) (omega arith)
 
   -- of a table, what stands up to the last record
-  lent-records : (lent : ℕ) → length es * width ≡ length (flat (records es)) → take (length es * width) (recordImage lent (read r text)) ≡ flat (records es)
+  lent-records : (lent : ℕ) → length es * width ≡ length (flat text (records es)) → take (length es * width) (recordImage text lent (read r text)) ≡ flat text (records es)
   unfolding recordImage
-  lent-records lent e = ap (λ (x : Reading). take (length es * width) (recordImage lent x)) reads ∙ ap (λ (n : ℕ). take n (flat (records es) ++ replicate (lent - length (flat (records es))) 0)) e ∙ take-append-seam (flat (records es)) (replicate (lent - length (flat (records es))) 0)
+  lent-records lent e = ap (λ (x : Reading). take (length es * width) (recordImage text lent x)) reads ∙ ap (λ (n : ℕ). take n (flat text (records es) ++ replicate (lent - length (flat text (records es))) 0)) e ∙ take-append-seam (flat text (records es)) (replicate (lent - length (flat text (records es))) 0)
 
-  all-records : length es * width ≡ length (flat (records es)) → recordImage (length es * width) (read r text) ≡ flat (records es)
+  all-records : length es * width ≡ length (flat text (records es)) → recordImage text (length es * width) (read r text) ≡ flat text (records es)
   unfolding recordImage
-  all-records e = ap (recordImage (length es * width)) reads ∙ ap (λ (n : ℕ). flat (records es) ++ replicate n 0) (let z : length es * width - length (flat (records es)) ≡ 0 = omega arith in z) ∙ append-nil (flat (records es))
+  all-records e = ap (recordImage text (length es * width)) reads ∙ ap (λ (n : ℕ). flat text (records es) ++ replicate n 0) (let z : length es * width - length (flat text (records es)) ≡ 0 = omega arith in z) ∙ append-nil (flat text (records es))
 
   -- the rows of a text read into tables of any sizes, where that of the records is lent up to the last one
-  pub scene-read : (lent doubles : ℕ) → sceneRows text (take (length es * width) (recordImage lent (read r text))) (realImage doubles (read r text)) ≡ rowsOf text es
+  pub scene-read : (lent doubles : ℕ) → sceneRows text (take (length es * width) (recordImage text lent (read r text))) (realImage doubles (read r text)) ≡ rowsOf text es
   unfolding records
   scene-read lent doubles =
-      let e : length es * width ≡ length (flat (records es)) = omega (arith, flat-length (records es), records-length [] es) in
-      let c : length (flat (records es)) / width ≡ length es = omega arith in
+      let e : length es * width ≡ length (flat text (records es)) = omega (arith, flat-length text (records es), records-length [] es) in
+      let c : length (flat text (records es)) / width ≡ length es = omega arith in
       (λ i. sceneRows text (lent-records lent e i) (realImage doubles (read r text)))
       ∙ (λ i. rowsIn text (sym (all-records e) i) (realImage doubles (read r text)) (c i))
       ∙ rows-read (length es * width) doubles

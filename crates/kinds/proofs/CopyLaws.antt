@@ -6,7 +6,7 @@ use native.Mathlib.Nat.{zero-add}
 use native.Mathlib.Numerals.{add-one}
 use native.Mathlib.Omega.{arith}
 use lib.ListN.{length, length-drop, take, drop, getD, set, drop-of-length-le}
-use lib.Seq.{getD-drop, getD-take, length-take-le, paste, paste-suc, paste-zero, take-take}
+use lib.Seq.{getD-drop, getD-take, length-take-le, paste, paste-suc, take-take}
 use Rattle.laws.specs.Bytes.{Bytes, part}
 
 -- the first i of n bytes from a place on, over as many others
@@ -14,9 +14,6 @@ abbrev pub copied : Bytes → ℕ → ℕ → Bytes → ℕ → Bytes
 copied from place n over i = paste over 0 (part from place n) i
 
 module _ (from : Bytes) (place n : ℕ) (over : Bytes) (l : length over ≡ n) (fits : place + n ≤ length from) where
-  pub copied-none : over ≡ copied from place n over 0
-  copied-none = paste-zero over 0 (part from place n)
-
   pub copied-more : (i : ℕ) (d : ℕ) → i < n → set (copied from place n over i) i (getD from (place + i) d) ≡ copied from place n over (i + 1)
   copied-more i d h =
       (λ j. set (copied from place n over i) (sym (zero-add i) j) (got j))

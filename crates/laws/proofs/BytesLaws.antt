@@ -20,13 +20,6 @@ unfolding same
 same-refl [] = refl
 same-refl (x ∷ v) = rw (eq-eqb x x refl) (same-refl v)
 
-pub same-false : (v w : Bytes) → (v ≡ w → ⊥) → same v w ≡ false
-same-false v w h = go (same v w) refl
-  where
-    go : (b : Bool) → same v w ≡ b → same v w ≡ false
-    go true e = absurd (h (same-eq v w e))
-    go false e = e
-
 -- the same bytes are as many
 pub same-sized : (v w : Bytes) → (eqb (length v) (length w) && same w v) ≡ same w v
 same-sized v w = go (same w v) refl

@@ -33,28 +33,28 @@ link-length : (R : List Record) (m v : ℕ) → length (link R m v) ≡ length R
 link-length R zero v = refl
 link-length R (suc k) v = simp length-set
 
-told-link : (R : List Record) (z : List ℕ) (m v : ℕ) → m ≤ length R → toldIn (flat R ++ z) m v ≡ flat (link R m v) ++ z
-told-link R z zero v h = refl
-told-link R z (suc k) v h = set-append-left (flat R) z (k * width + 9) v (omega (arith, flat-length R)) ∙ ap {B = List ℕ} (λ (y : List ℕ). y ++ z) (flat-next R k v h)
+told-link : (text : Bytes) (R : List Record) (z : List ℕ) (m v : ℕ) → m ≤ length R → toldIn (flat text R ++ z) m v ≡ flat text (link R m v) ++ z
+told-link text R z zero v h = refl
+told-link text R z (suc k) v h = set-append-left (flat text R) z (k * width + 9) v (omega (arith, flat-length text R)) ∙ ap {B = List ℕ} (λ (y : List ℕ). y ++ z) (flat-next text R k v h)
 
 -- a record put behind the others
-put-record : (R : List Record) (r : Record) (n m : ℕ) → n ≡ length R → n * width + width ≤ m → sets (filled 0 m (flat R)) (n * width) (fields r) ≡ filled 0 m (flat (R ++ r ∷ []))
-put-record R r n m q h =
-    let z : List ℕ = replicate (m - length (flat R)) 0 in
-    let l : n * width ≡ length (flat R) = omega (arith, flat-length R) in
-    let f : n * width + width ≤ length (flat R ++ z) = omega (arith, length-append (flat R) z, length-replicate {A = ℕ} (m - length (flat R)) 0) in
-    let a : take (n * width) (flat R ++ z) ≡ flat R = ap (λ (k : ℕ). take k (flat R ++ z)) l ∙ take-append-seam (flat R) z in
-    let c : m - length (flat R) - width ≡ m - length (flat (R ++ r ∷ [])) = omega (arith, flat-length (R ++ r ∷ []), length-append R (r ∷ []), flat-length R) in
-    let b : drop (n * width + width) (flat R ++ z) ≡ replicate (m - length (flat (R ++ r ∷ []))) 0 =
-    ap (λ (k : ℕ). drop (k + width) (flat R ++ z)) l ∙ drop-append-add (flat R) z width ∙ drop-zeros width (m - length (flat R)) ∙
+put-record : (text : Bytes) (R : List Record) (r : Record) (n m : ℕ) → n ≡ length R → n * width + width ≤ m → sets (filled 0 m (flat text R)) (n * width) (fields text r) ≡ filled 0 m (flat text (R ++ r ∷ []))
+put-record text R r n m q h =
+    let z : List ℕ = replicate (m - length (flat text R)) 0 in
+    let l : n * width ≡ length (flat text R) = omega (arith, flat-length text R) in
+    let f : n * width + width ≤ length (flat text R ++ z) = omega (arith, length-append (flat text R) z, length-replicate {A = ℕ} (m - length (flat text R)) 0) in
+    let a : take (n * width) (flat text R ++ z) ≡ flat text R = ap (λ (k : ℕ). take k (flat text R ++ z)) l ∙ take-append-seam (flat text R) z in
+    let c : m - length (flat text R) - width ≡ m - length (flat text (R ++ r ∷ [])) = omega (arith, flat-length text (R ++ r ∷ []), length-append R (r ∷ []), flat-length text R) in
+    let b : drop (n * width + width) (flat text R ++ z) ≡ replicate (m - length (flat text (R ++ r ∷ []))) 0 =
+    ap (λ (k : ℕ). drop (k + width) (flat text R ++ z)) l ∙ drop-append-add (flat text R) z width ∙ drop-zeros width (m - length (flat text R)) ∙
     ap (λ (k : ℕ). replicate k 0) c in
-    sets-eq (fields r) (flat R ++ z) (n * width) f ∙ (λ i. (a i ++ fields r) ++ b i) ∙ (λ i. sym (flat-snoc R r) i ++ replicate (m - length (flat (R ++ r ∷ []))) 0)
+    sets-eq (fields text r) (flat text R ++ z) (n * width) f ∙ (λ i. (a i ++ fields text r) ++ b i) ∙ (λ i. sym (flat-snoc text R r) i ++ replicate (m - length (flat text (R ++ r ∷ []))) 0)
 
 records-count : (es : List Entry) → length (records es) ≡ length es
 unfolding records
 records-count es = records-length [] es
 
-module _ (text : Bytes) (table : List ℕ) (e : Entry) (es : List Entry) (d : Draft) (w : table ≡ filled 0 (length table) (flat (records es))) (h : AllRead (text ++ newline) (e ∷ es)) (own : recordFrom d ≡ recordOf [] e es) where
+module _ (text : Bytes) (table : List ℕ) (e : Entry) (es : List Entry) (d : Draft) (w : table ≡ filled 0 (length table) (flat text (records es))) (h : AllRead (text ++ newline) (e ∷ es)) (own : recordFrom d ≡ recordOf [] e es) where
   named : part text (d .name) (d .size) ≡ e .statement .name
   unfolding recordOf
   named = (λ i. part text (own i .name) (own i .nameLength)) ∙ name-at text (e .places .name) (e .statement .name) (h .0 .name)
@@ -62,7 +62,7 @@ module _ (text : Bytes) (table : List ℕ) (e : Entry) (es : List Entry) (d : Dr
   finds : (n : ℕ) → n ≡ length (statements es) → latestIn text table (part text (d .name) (d .size)) n ≡ latest (e .statement .name) (statements es)
   finds n q = (λ i. latestIn text (w i) (named i) ((q ∙ statements-length es) i)) ∙ search-latest text es (length table) (h .1) (e .statement .name)
 
-  pub enters : (n : ℕ) → n ≡ length (statements es) → n ≤ 1024 → n * width + width ≤ length table → enteredIn text table n d ≡ filled 0 (length table) (flat (records (e ∷ es)))
+  pub enters : (n : ℕ) → n ≡ length (statements es) → n ≤ 1024 → n * width + width ≤ length table → enteredIn text table n d ≡ filled 0 (length table) (flat text (records (e ∷ es)))
   unfolding enteredIn
   enters n q few f =
       let rows = length table / width in
@@ -75,9 +75,9 @@ module _ (text : Bytes) (table : List ℕ) (e : Entry) (es : List Entry) (d : Dr
       let le : m ≤ length R = omega (arith, k, latest-le (e .statement .name) (statements es), statements-length es) in
       let L : List Record = link R m (suc (length es)) in
       let c : n + 1 ≡ suc (length es) = omega (arith, statements-length es) in
-      let j : length (flat L) ≡ length (flat R) = omega (arith, flat-length L, flat-length R, link-length R m (suc (length es))) in
-      (λ i. cond (room i) table (sets (toldIn table (latestIn text table (part text (d .name) (d .size)) (in-table i)) (small i)) (n * width) (fields (recordFrom d)))) ∙
-      (λ i. sets (toldIn (w i) (finds n q i) (c i)) (n * width) (fields (own i))) ∙
-      ap (λ (t : List ℕ). sets t (n * width) (fields (recordOf [] e es))) (told-link R (replicate (length table - length (flat R)) 0) m (suc (length es)) le ∙ ap {B = List ℕ} (λ (x : ℕ). flat L ++ replicate (length table - x) 0) (sym j)) ∙
-      put-record L (recordOf [] e es) n (length table) (omega (arith, link-length R m (suc (length es)), k, statements-length es)) f ∙
-      ap (λ (t : List Record). filled 0 (length table) (flat t)) (sym (records-grow e (gives-name (e .statement)) es))
+      let j : length (flat text L) ≡ length (flat text R) = omega (arith, flat-length text L, flat-length text R, link-length R m (suc (length es))) in
+      (λ i. cond (room i) table (sets (toldIn table (latestIn text table (part text (d .name) (d .size)) (in-table i)) (small i)) (n * width) (fields text (recordFrom d)))) ∙
+      (λ i. sets (toldIn (w i) (finds n q i) (c i)) (n * width) (fields text (own i))) ∙
+      ap (λ (t : List ℕ). sets t (n * width) (fields text (recordOf [] e es))) (told-link text R (replicate (length table - length (flat text R)) 0) m (suc (length es)) le ∙ ap {B = List ℕ} (λ (x : ℕ). flat text L ++ replicate (length table - x) 0) (sym j)) ∙
+      put-record text L (recordOf [] e es) n (length table) (omega (arith, link-length R m (suc (length es)), k, statements-length es)) f ∙
+      ap (λ (t : List Record). filled 0 (length table) (flat text t)) (sym (records-grow e (gives-name (e .statement)) es))

@@ -24,7 +24,7 @@ use Rattle.scene.specs.Record.{recordOf, flat, filled, records, width, fieldIn,
 -- the table, of n numbers, of the entries es that have been read of a text
 module _ (text : Bytes) (es : List Entry) (n : ℕ) (h : AllRead (text ++ newline) es) where
   abbrev table : List ℕ
-  table = filled 0 n (flat (records es))
+  table = filled 0 n (flat text (records es))
 
   said : (l : List Entry) (e : Entry) (d : List Entry) → es ≡ l ++ e ∷ d → Says (text ++ newline) (e .places .name) (e .statement .name)
   said l e d q = read-tail (text ++ newline) l (e ∷ d) (subst (AllRead (text ++ newline)) q h) .0 .name

@@ -11,7 +11,7 @@ use lib.ListN.{length, getD, set, take, drop}
 use lib.Seq.{paste, paste-suc, sets, sets-eq, take-length}
 use Rattle.laws.proofs.BoolLaws.{cond-elim}
 use Rattle.laws.specs.Bytes.{Bytes, part}
-use Rattle.linker.specs.Entered.{enteredIn, recordFrom, toldIn}
+use Rattle.linker.specs.Entered.{enteredIn, recordFrom, rowOf, toldIn}
 use Rattle.linker.specs.Lookup.{hasName, latestIn}
 use Rattle.linker.specs.Seen.{back, clipped, draftIn, isLookedUp, lookedFor}
 use Rattle.statement.specs.declared.Phase.{Phase}
@@ -80,6 +80,10 @@ module _ (T row : List ℕ) (at : ℕ) (fits : at + length row ≤ length T) whe
 
 -- ---- a record entered
 
+-- the draft's record has the numbers that are stored
+row-fields : (text : Bytes) (d : Draft) → fields text (recordFrom d) ≡ rowOf d
+row-fields text d = refl
+
 module _ (text : Bytes) (T : List ℕ) (n : ℕ) (d : Draft) where
   abbrev rows : ℕ
   rows = length T / width
@@ -89,6 +93,6 @@ module _ (text : Bytes) (T : List ℕ) (n : ℕ) (d : Draft) where
   entered-none h = rw (le-leb rows n h)
 
   pub entered-one : n < rows → {w : Bytes} {earlier number : ℕ} {T₁ T₂ : List ℕ} → w ≡ part text (d .name) (d .size) → earlier ≡ latestIn text T w (min n rows) → number ≡ clipped (n + 1)
-      → T₁ ≡ toldIn T earlier number → T₂ ≡ sets T₁ (n * width) (fields (recordFrom d)) → T₂ ≡ enteredIn text T n d
+      → T₁ ≡ toldIn T earlier number → T₂ ≡ sets T₁ (n * width) (rowOf d) → T₂ ≡ enteredIn text T n d
   unfolding enteredIn
-  entered-one h p e m t s = rw (lt-leb rows n h) (s ∙ ap (λ (z : List ℕ). sets z (n * width) (fields (recordFrom d))) (t ∙ (λ i. toldIn T ((e ∙ ap (λ (v : Bytes). latestIn text T v (min n rows)) p) i) (m i))))
+  entered-one h p e m t s = rw (lt-leb rows n h) (s ∙ (λ i. sets ((t ∙ (λ j. toldIn T ((e ∙ ap (λ (v : Bytes). latestIn text T v (min n rows)) p) j) (m j))) i) (n * width) (sym (row-fields text d) i)))

@@ -1,6 +1,6 @@
 -- A record is entered behind the others, and the latest earlier one of its name is told its number.
 use mathlib.Core.Bool.{cond}
-use mathlib.Core.List.{List}
+use mathlib.Core.List.{List, [], _∷_}
 use Prim.Native.Nat.{ℕ, zero, suc, _+_, _*_, _/_, min}
 use lib.Dec.{leb}
 use lib.ListN.{length, set}
@@ -15,6 +15,11 @@ use Rattle.scene.specs.Record.{fields, width, Record}
 abbrev pub recordFrom : Draft → Record
 recordFrom d = record { type = d .kind; modifier = d .modifier; target = d .target; name = d .name; nameLength = d .size; string = d .string; strings = d .strings; real = d .real; reals = d .reals; next = 0 }
 
+-- the ten numbers of a draft as they are stored, 0 for no next of its name yet
+abbrev pub rowOf : Draft → List ℕ
+rowOf d =
+    d .kind ∷ d .modifier ∷ d .target ∷ d .name ∷ d .size ∷ d .string ∷ d .strings ∷ d .real ∷ d .reals ∷ 0 ∷ []
+
 -- "number of the next primitive of the same name": the record of a number is told it, and 0 is no record
 abbrev pub toldIn : List ℕ → ℕ → ℕ → List ℕ
 toldIn table zero number = table
@@ -26,4 +31,4 @@ unfoldable pub enteredIn : Bytes → List ℕ → ℕ → Draft → List ℕ
 enteredIn text table n d =
     let rows = length table / width in
     let earlier = latestIn text table (part text (d .name) (d .size)) (min n rows) in
-    cond (leb rows n) table (sets (toldIn table earlier (clipped (n + 1))) (n * width) (fields (recordFrom d)))
+    cond (leb rows n) table (sets (toldIn table earlier (clipped (n + 1))) (n * width) (fields text (recordFrom d)))

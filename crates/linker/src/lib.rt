@@ -3,11 +3,11 @@ ghost use mathlib.Core.Path.{_≡_};
 ghost use Prim.Native.Nat.{_+_, _*_, _/_, _≤_, min};
 ghost use lib.ListN.{getD, length};
 ghost use lib.Seq.{sets};
-ghost use Rattle.linker.specs.Entered.{enteredIn, recordFrom, toldIn};
+ghost use Rattle.linker.specs.Entered.{enteredIn, rowOf, toldIn};
 ghost use Rattle.linker.specs.Lookup.{latestIn};
 ghost use Rattle.linker.specs.Seen.{back, clipped, draftIn, isLookedUp, lookedFor, seenIn};
 ghost use Rattle.scene.specs.HouseRules.{zeroReal};
-ghost use Rattle.scene.specs.Record.{fields, width};
+ghost use Rattle.scene.specs.Record.{width};
 use statement::Draft;
 use statement::Phase;
 use statement::Seen;
@@ -156,7 +156,7 @@ pub fn look(
 // Stores a draft as row `n`, counted from 0, with no next of its name.
 fn put_row(records: &mut [u32], n: usize, d: Draft)
     requires { ⌜ n * width + width ≤ length (now records) ⌝ }
-    ensures { λ _. ⌜ now (records .exit) ≡ sets (now (records .entry)) (n * width) (fields (recordFrom d)) ⌝ }
+    ensures { λ _. ⌜ now (records .exit) ≡ sets (now (records .entry)) (n * width) (rowOf d) ⌝ }
 {
     let at = n * WIDTH;
     let row = [

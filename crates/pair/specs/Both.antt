@@ -27,7 +27,7 @@ beside (accepted es) (accepted fs) = accepted es
 -- the tables as they were lent, the answer, and the tables at exit
 pub record ReadsBoth (left : Bytes) (lr : List ℕ) (lx : List Float) (right : Bytes) (rr : List ℕ) (rx : List Float) (r : Both) (lr′ : List ℕ) (lx′ : List Float) (rr′ : List ℕ) (rx′ : List Float) : Type 0 where
   pub says : r ≡ bothAnswer (readInto left lr lx) (readInto right rr rx)
-  pub leftTable : lr′ ≡ recordImage (length lr) (beside (readInto left lr lx) (readInto right rr rx))
+  pub leftTable : lr′ ≡ recordImage left (length lr) (beside (readInto left lr lx) (readInto right rr rx))
   pub leftDoubles : lx′ ≡ realImage (length lx) (beside (readInto left lr lx) (readInto right rr rx))
-  pub rightTable : rr′ ≡ recordImage (length rr) (beside (readInto right rr rx) (readInto left lr lx))
+  pub rightTable : rr′ ≡ recordImage right (length rr) (beside (readInto right rr rx) (readInto left lr lx))
   pub rightDoubles : rx′ ≡ realImage (length rx) (beside (readInto right rr rx) (readInto left lr lx))

@@ -231,7 +231,7 @@ module _ (text : Bytes) (T₀ : List ℕ) (D₀ : List Float) where
   refused-reads n p T D e t d = record {
     says = ap answered (sym e);
     numbers = ap answer (sym e);
-    table = t ∙ zero-records (length T₀) n p ∙ ap (recordImage (length T₀)) (sym e);
+    table = t ∙ zero-records text (length T₀) n p ∙ ap (recordImage text (length T₀)) (sym e);
     doubles = d ∙ zero-reals (length D₀) n p ∙ ap (realImage (length D₀)) (sym e);
   }
 
@@ -250,7 +250,7 @@ module _ (text : Bytes) (T₀ : List ℕ) (D₀ : List Float) where
         record {
           says = (λ i. Accepted (A .count i) (A .used i)) ∙ ap answered (sym e);
           numbers = (λ i. record { reason = 0; place = 0; primitives = A .count i; reals = A .used i }) ∙ ap answer (sym e);
-          table = A .stored ∙ ap (λ (n : ℕ). filled 0 n (flat (records (A .entries)))) t ∙ ap (recordImage (length T₀)) (sym e);
+          table = A .stored ∙ ap (λ (n : ℕ). filled 0 n (flat text (records (A .entries)))) t ∙ ap (recordImage text (length T₀)) (sym e);
           doubles = A .doubles ∙ ap (λ (n : ℕ). filled zeroReal n (realTable (A .entries))) d ∙ ap (realImage (length D₀)) (sym e);
         }
 

@@ -26,7 +26,7 @@ module _ (text : Bytes) (lent : List ℕ) (doubles : List Float) (r : Answer) (t
 
   row-of : (n : ℕ) → recordIn table n ≡ nth (records es) n
   unfolding recordImage
-  row-of n = ap (λ (t : List ℕ). recordIn t n) (R .table ∙ ap (recordImage (length lent)) e) ∙ record-in (records es) (length lent) n
+  row-of n = ap (λ (t : List ℕ). recordIn t n) (R .table ∙ ap (recordImage text (length lent)) e) ∙ record-in text (records es) (length lent) n
 
   reals-of : (k : ℕ) → k ≡ length (realTable es) → take k reals ≡ realTable es
   unfolding realImage

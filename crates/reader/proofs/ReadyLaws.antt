@@ -143,7 +143,7 @@ module _ (text : Bytes) (table : List ℕ) (reals : List Float) (room : Settings
   finds-here = ap (latestIn text table w) (sym (count-is text table reals room s I)) ∙ finds text table reals room s I w
 
   looked : (latest w d ≡ X) × FoundAs es w (draftIn table X) X
-  looked = (sym finds-here, found-as table es (I .stored) (fit text table reals room s I .0) w X finds-here)
+  looked = (sym finds-here, found-as text table es (I .stored) (fit text table reals room s I .0) w X finds-here)
 
   -- as the code's values stand when the phase is ph
   sees : (ph : Phase) → ph ≡ I .phase → (f : ℕ) → f ≡ lookedFor (image (suc (s .at + len)) d ph (I .places) .phase) X
@@ -239,5 +239,5 @@ module _ (text : Bytes) (table : List ℕ) (reals : List Float) (room : Settings
     pub count-fits : s′ .count ≤ 1024
     count-fits = omega (arith, N .count, count-room .1)
 
-    pub entered : enteredIn text table (s′ .count) (s′ .draft) ≡ filled 0 (length table) (flat (records (N .entry ∷ es)))
+    pub entered : enteredIn text table (s′ .count) (s′ .draft) ≡ filled 0 (length table) (flat text (records (N .entry ∷ es)))
     entered = enters text table (N .entry) es (s′ .draft) (I .stored) all-later (N .own) (s′ .count) (N .count) count-fits (omega (arith, N .count, count-room .0))

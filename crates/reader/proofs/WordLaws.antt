@@ -139,7 +139,7 @@ module _ (text : Bytes) (table : List ℕ) (reals : List Float) (room : Settings
 
   -- the statement ends: T and D with its record and its reals
   pub goes-out : (s′ : State) (xs : List Float) (N : Done (suc (s .at + len)) (I .above) (I .phase) reached s′ xs) (T : List ℕ) (D : List Float) → length T ≡ length table → length D ≡ length reals
-      → T ≡ filled 0 (length table) (flat (records (N .entry ∷ I .above))) → D ≡ filled zeroReal (length reals) ((realTable (I .above) ++ openReals (I .phase)) ++ xs)
+      → T ≡ filled 0 (length table) (flat text (records (N .entry ∷ I .above))) → D ≡ filled zeroReal (length reals) ((realTable (I .above) ++ openReals (I .phase)) ++ xs)
       → (s″ : State) → s″ ≡ between (s′ .at) (s′ .count + 1) (s′ .used) → Inv text T D room s″
   unfolding table-of.reals statements realsUsed
   goes-out s′ xs N T D t d h g s″ q = record {
@@ -151,7 +151,7 @@ module _ (text : Bytes) (table : List ℕ) (reals : List Float) (room : Settings
     whole = splits;
     reach = comes ∙ N .goes ∙ ap (λ (n : ℕ). goingAt n gap idle (N .places) (N .entry ∷ I .above)) length-read;
     is = q ∙ (λ i. between ((N .place ∙ length-read) i) (count i) (total i));
-    stored = h ∙ ap (λ (n : ℕ). filled 0 n (flat (records (N .entry ∷ I .above)))) (sym t);
+    stored = h ∙ ap (λ (n : ℕ). filled 0 n (flat text (records (N .entry ∷ I .above)))) (sym t);
     doubles = g ∙ (λ i. filled zeroReal (sym d i) ((append-assoc (realTable (I .above)) (openReals (I .phase)) xs ∙ ap {B = List Float} (λ (z : List Float). realTable (I .above) ++ z) (sym (N .reals)) ∙ sym (append-nil (realTable (I .above) ++ realsIn (N .entry .statement .body)))) i));
     settings = I .settings ∙ (λ i. settingsFor (sym t i) (sym d i));
     short = I .short;

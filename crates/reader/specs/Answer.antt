@@ -28,5 +28,5 @@ readInto text records reals = read (settingsFor (length records) (length reals))
 pub record Reads (text : Bytes) (records : List ℕ) (reals : List Float) (r : Answer) (records′ : List ℕ) (reals′ : List Float) : Type 0 where
   pub says : r ≡ answered (readInto text records reals)
   pub numbers : numbersOf r ≡ answer (readInto text records reals)
-  pub table : records′ ≡ recordImage (length records) (readInto text records reals)
+  pub table : records′ ≡ recordImage text (length records) (readInto text records reals)
   pub doubles : reals′ ≡ realImage (length reals) (readInto text records reals)

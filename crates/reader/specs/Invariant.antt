@@ -36,7 +36,7 @@ pub record Inv (text : Bytes) (table : List ℕ) (reals : List Float) (room : Se
   pub whole : text ++ newline ≡ done ++ rest
   pub reach : run room initial done ≡ goingAt (length done) gap phase places above
   pub is : s ≡ image (length done) (statements above) phase places
-  pub stored : table ≡ filled 0 (length table) (flat (records above))
+  pub stored : table ≡ filled 0 (length table) (flat text (records above))
   pub doubles : reals ≡ filled zeroReal (length reals) (realTable above ++ openReals phase)
   pub settings : room ≡ settingsFor (length table) (length reals)
   pub short : length text ≤ 65536
@@ -59,7 +59,7 @@ pub record Accepts (text : Bytes) (table : List ℕ) (reals : List Float) (room 
   pub accepts : result text room ≡ accepted entries
   pub count : n ≡ length entries
   pub used : k ≡ length (realTable entries)
-  pub stored : table ≡ filled 0 (length table) (flat (records entries))
+  pub stored : table ≡ filled 0 (length table) (flat text (records entries))
   pub doubles : reals ≡ filled zeroReal (length reals) (realTable entries)
 
 -- an answer, beside the tables as they stand then

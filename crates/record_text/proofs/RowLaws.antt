@@ -90,7 +90,7 @@ module _ (text : Bytes) (table : List ℕ) where
 
 module _ (r : Settings) (text : Bytes) (es : List Entry) (n : ℕ) (reads : read r text ≡ accepted es) where
   abbrev table : List ℕ
-  table = recordImage n (accepted es)
+  table = recordImage text n (accepted es)
 
   -- the same entries, split one further on
   next : (l : List Entry) (e : Entry) (x : List Entry) → es ≡ l ++ e ∷ x → es ≡ l ++ e ∷ [] ++ x
@@ -187,5 +187,5 @@ module _ (r : Settings) (text : Bytes) (es : List Entry) (n : ℕ) (reads : read
   texts l [] q = refl
   texts l (e ∷ x) q = λ i. texts (l ++ e ∷ []) x (next l e x q) i ++ record-text l e x q i
 
-pub written : (r : Settings) (text : Bytes) (es : List Entry) (n : ℕ) → read r text ≡ accepted es → recordTexts text (recordImage n (accepted es)) (length es) ≡ tidy (statements es)
+pub written : (r : Settings) (text : Bytes) (es : List Entry) (n : ℕ) → read r text ≡ accepted es → recordTexts text (recordImage text n (accepted es)) (length es) ≡ tidy (statements es)
 written r text es n reads = texts r text es n reads [] es refl

@@ -9,6 +9,7 @@ use lib.ListN.{length, set, getD, List·getD-append, List·getD-eq-default}
 use lib.Seq.{getD-append-add}
 use Rattle.laws.proofs.NatLaws.{le-or-lt}
 use Rattle.laws.proofs.TableLaws.{padded}
+use Rattle.laws.specs.Bytes.{Bytes}
 use Rattle.scene.specs.Record.{recordIn, fieldIn, nth, filled, Record, fields, nothing, width, flat}
 
 -- a record with its next set
@@ -20,47 +21,47 @@ abbrev pub link : List Record → ℕ → ℕ → List Record
 link rs zero v = rs
 link rs (suc k) v = set rs k (withNext (getD rs k nothing) v)
 
-pub flat-length : (rs : List Record) → length (flat rs) ≡ width * length rs
+pub flat-length : (text : Bytes) (rs : List Record) → length (flat text rs) ≡ width * length rs
 unfolding flat
-flat-length [] = refl
-flat-length (r ∷ rs) = let h = flat-length rs in omega arith
+flat-length text [] = refl
+flat-length text (r ∷ rs) = let h = flat-length text rs in omega arith
 
 -- number j of record k, both from 0
-flat-at : (rs : List Record) (k j : ℕ) → k < length rs → j < width → getD (flat rs) (k * width + j) 0 ≡ getD (fields (getD rs k nothing)) j 0
+flat-at : (text : Bytes) (rs : List Record) (k j : ℕ) → k < length rs → j < width → getD (flat text rs) (k * width + j) 0 ≡ getD (fields text (getD rs k nothing)) j 0
 unfolding flat
-flat-at [] k j h l = absurd (omega arith)
-flat-at (r ∷ rs) zero j h l = let e : 0 * 10 + j ≡ j = omega arith in ap (λ n. getD (fields r ++ flat rs) n 0) e ∙ List·getD-append (fields r) (flat rs) 0 j l
-flat-at (r ∷ rs) (suc k) j h l = let e : suc k * 10 + j ≡ 10 + (k * 10 + j) = omega arith in ap (λ n. getD (fields r ++ flat rs) n 0) e ∙ getD-append-add (fields r) (flat rs) (k * 10 + j) 0 ∙ flat-at rs k j (omega arith) l
+flat-at text [] k j h l = absurd (omega arith)
+flat-at text (r ∷ rs) zero j h l = let e : 0 * 10 + j ≡ j = omega arith in ap (λ n. getD (fields text r ++ flat text rs) n 0) e ∙ List·getD-append (fields text r) (flat text rs) 0 j l
+flat-at text (r ∷ rs) (suc k) j h l = let e : suc k * 10 + j ≡ 10 + (k * 10 + j) = omega arith in ap (λ n. getD (fields text r ++ flat text rs) n 0) e ∙ getD-append-add (fields text r) (flat text rs) (k * 10 + j) 0 ∙ flat-at text rs k j (omega arith) l
 
-pub flat-next : (rs : List Record) (k v : ℕ) → k < length rs → set (flat rs) (k * width + 9) v ≡ flat (link rs (suc k) v)
+pub flat-next : (text : Bytes) (rs : List Record) (k v : ℕ) → k < length rs → set (flat text rs) (k * width + 9) v ≡ flat text (link rs (suc k) v)
 unfolding flat
-flat-next [] k v h = absurd (omega arith)
-flat-next (r ∷ rs) zero v h = refl
-flat-next (r ∷ rs) (suc k) v h =
+flat-next text [] k v h = absurd (omega arith)
+flat-next text (r ∷ rs) zero v h = refl
+flat-next text (r ∷ rs) (suc k) v h =
     let e : suc k * 10 + 9 ≡ suc (suc (suc (suc (suc (suc (suc (suc (suc (suc (k * 10 + 9)))))))))) = omega arith in
-    ap (λ n. set (fields r ++ flat rs) n v) e ∙ ap {B = List ℕ} (λ (z : List ℕ). fields r ++ z) (flat-next rs k v (omega arith))
+    ap (λ n. set (fields text r ++ flat text rs) n v) e ∙ ap {B = List ℕ} (λ (z : List ℕ). fields text r ++ z) (flat-next text rs k v (omega arith))
 
-pub flat-snoc : (rs : List Record) (r : Record) → flat (rs ++ r ∷ []) ≡ flat rs ++ fields r
+pub flat-snoc : (text : Bytes) (rs : List Record) (r : Record) → flat text (rs ++ r ∷ []) ≡ flat text rs ++ fields text r
 unfolding flat
-flat-snoc [] r = refl
-flat-snoc (q ∷ rs) r = ap {B = List ℕ} (λ (z : List ℕ). fields q ++ z) (flat-snoc rs r)
+flat-snoc text [] r = refl
+flat-snoc text (q ∷ rs) r = ap {B = List ℕ} (λ (z : List ℕ). fields text q ++ z) (flat-snoc text rs r)
 
 -- ---- a record read from the table
 
 -- number j of record k, also where there is no such record
-flat-any : (rs : List Record) (k j : ℕ) → j < width → getD (fields nothing) j 0 ≡ 0 → getD (flat rs) (k * width + j) 0 ≡ getD (fields (getD rs k nothing)) j 0
-flat-any rs k j l z = go (le-or-lt (length rs) k)
+flat-any : (text : Bytes) (rs : List Record) (k j : ℕ) → j < width → getD (fields text nothing) j 0 ≡ 0 → getD (flat text rs) (k * width + j) 0 ≡ getD (fields text (getD rs k nothing)) j 0
+flat-any text rs k j l z = go (le-or-lt (length rs) k)
   where
-    go : (length rs ≤ k) ⊎ (k < length rs) → getD (flat rs) (k * width + j) 0 ≡ getD (fields (getD rs k nothing)) j 0
+    go : (length rs ≤ k) ⊎ (k < length rs) → getD (flat text rs) (k * width + j) 0 ≡ getD (fields text (getD rs k nothing)) j 0
     go (inl h) =
-        let beyond : length (flat rs) ≤ k * width + j = omega (arith, flat-length rs) in
-        List·getD-eq-default (flat rs) 0 beyond ∙ sym z ∙ ap (λ (r : Record). getD (fields r) j 0) (sym (List·getD-eq-default rs nothing h))
-    go (inr h) = flat-at rs k j h l
+        let beyond : length (flat text rs) ≤ k * width + j = omega (arith, flat-length text rs) in
+        List·getD-eq-default (flat text rs) 0 beyond ∙ sym z ∙ ap (λ (r : Record). getD (fields text r) j 0) (sym (List·getD-eq-default rs nothing h))
+    go (inr h) = flat-at text rs k j h l
 
 -- the table as it is read is the records
-pub record-in : (rs : List Record) (m n : ℕ) → recordIn (filled 0 m (flat rs)) n ≡ nth rs n
+pub record-in : (text : Bytes) (rs : List Record) (m n : ℕ) → recordIn (filled 0 m (flat text rs)) n ≡ nth rs n
 unfolding recordIn fieldIn nth
-record-in rs m n = λ i. record { type = cell 0 (lit< tt) refl i; modifier = cell 1 (lit< tt) refl i; target = cell 2 (lit< tt) refl i; name = cell 3 (lit< tt) refl i; nameLength = cell 4 (lit< tt) refl i; string = cell 5 (lit< tt) refl i; strings = cell 6 (lit< tt) refl i; real = cell 7 (lit< tt) refl i; reals = cell 8 (lit< tt) refl i; next = cell 9 (lit< tt) refl i }
+record-in text rs m n = λ i. record { type = cell 0 (lit< tt) refl i; modifier = cell 1 (lit< tt) refl i; target = cell 2 (lit< tt) refl i; name = cell 3 (lit< tt) refl i; nameLength = cell 4 (lit< tt) refl i; string = cell 5 (lit< tt) refl i; strings = cell 6 (lit< tt) refl i; real = cell 7 (lit< tt) refl i; reals = cell 8 (lit< tt) refl i; next = cell 9 (lit< tt) refl i }
   where
-    cell : (j : ℕ) → j < width → getD (fields nothing) j 0 ≡ 0 → getD (filled 0 m (flat rs)) ((n - 1) * width + j) 0 ≡ getD (fields (getD rs (n - 1) nothing)) j 0
-    cell j l z = padded 0 (flat rs) (m - length (flat rs)) ((n - 1) * width + j) ∙ flat-any rs (n - 1) j l z
+    cell : (j : ℕ) → j < width → getD (fields text nothing) j 0 ≡ 0 → getD (filled 0 m (flat text rs)) ((n - 1) * width + j) 0 ≡ getD (fields text (getD rs (n - 1) nothing)) j 0
+    cell j l z = padded 0 (flat text rs) (m - length (flat text rs)) ((n - 1) * width + j) ∙ flat-any text rs (n - 1) j l z

@@ -39,12 +39,12 @@ module _ {A : Type 0} (z : A) where
 
 module _ (n k : ℕ) (text : Bytes) where
   -- the entries that it uses fit
-  pub used-numbers : (x : Reading) → read (settingsFor n k) text ≡ x → length (flat (records (entries x))) ≤ n
+  pub used-numbers : (x : Reading) → read (settingsFor n k) text ≡ x → length (flat text (records (entries x))) ≤ n
   unfolding flat records recordsFrom
   used-numbers (refused m p) e = omega arith
   used-numbers (accepted es) e =
       let f = fit-forth (settingsFor n k) (statements es) (accept-forth (settingsFor n k) text es e .2) in
-      omega (arith, f .1, flat-length (records es), records-length [] es, statements-length es)
+      omega (arith, f .1, flat-length text (records es), records-length [] es, statements-length es)
 
   pub used-reals : (x : Reading) → read (settingsFor n k) text ≡ x → length (realTable (entries x)) ≤ k
   unfolding reals statements
@@ -54,18 +54,18 @@ module _ (n k : ℕ) (text : Bytes) where
       omega (arith, f .2, reals-length (statements es))
 
   -- they are as long as they were lent
-  pub numbers-kept : length (recordImage n (read (settingsFor n k) text)) ≡ n
+  pub numbers-kept : length (recordImage text n (read (settingsFor n k) text)) ≡ n
   unfolding recordImage
-  numbers-kept = sym (filled-length 0 n (flat (records (entries (read (settingsFor n k) text)))) (used-numbers _ refl))
+  numbers-kept = sym (filled-length 0 n (flat text (records (entries (read (settingsFor n k) text)))) (used-numbers _ refl))
 
   pub reals-kept : length (realImage k (read (settingsFor n k) text)) ≡ k
   unfolding realImage
   reals-kept = sym (filled-length zeroReal k (realTable (entries (read (settingsFor n k) text))) (used-reals _ refl))
 
 -- a refused one leaves zeros
-pub zero-records : (k n p : ℕ) → replicate k 0 ≡ recordImage k (refused n p)
+pub zero-records : (text : Bytes) (k n p : ℕ) → replicate k 0 ≡ recordImage text k (refused n p)
 unfolding recordImage flat records recordsFrom
-zero-records k n p = ap (λ (j : ℕ). replicate j 0) (sym (sub-zero k))
+zero-records text k n p = ap (λ (j : ℕ). replicate j 0) (sym (sub-zero k))
 
 pub zero-reals : (k n p : ℕ) → replicate k zeroReal ≡ realImage k (refused n p)
 unfolding realImage reals statements
@@ -74,10 +74,10 @@ zero-reals k n p = ap (λ (j : ℕ). replicate j zeroReal) (sym (sub-zero k))
 -- ---- a record of an entry between others, and its name
 
 module _ (text : Bytes) (es : List Entry) (n : ℕ) (l : List Entry) (e : Entry) (d : List Entry) (q : es ≡ l ++ e ∷ d) where
-  pub record-is : recordIn (filled 0 n (flat (records es))) (suc (length d)) ≡ recordOf l e d
-  record-is = record-in (records es) n (suc (length d)) ∙ nth-at es l e d (suc (length d)) q refl
+  pub record-is : recordIn (filled 0 n (flat text (records es))) (suc (length d)) ≡ recordOf l e d
+  record-is = record-in text (records es) n (suc (length d)) ∙ nth-at es l e d (suc (length d)) q refl
 
-  pub name-is : AllRead (text ++ newline) es → nameIn text (filled 0 n (flat (records es))) (suc (length d)) ≡ e .statement .name
+  pub name-is : AllRead (text ++ newline) es → nameIn text (filled 0 n (flat text (records es))) (suc (length d)) ≡ e .statement .name
   unfolding nameIn recordOf
   name-is h =
       ap (λ (r : Record). part text (r .name) (r .nameLength)) record-is

@@ -27,8 +27,9 @@ pub record Record : Type 0 where
   pub reals : ℕ
   pub next : ℕ
 
-abbrev pub fields : Record → List ℕ
-fields r =
+-- a record's numbers as they stand in the table. The text is not used yet: a number computed from it will stand behind the ten
+abbrev pub fields : Bytes → Record → List ℕ
+fields text r =
     r .type ∷ r .modifier ∷ r .target ∷ r .name ∷ r .nameLength ∷ r .string ∷ r .strings ∷ r .real ∷ r .reals ∷ r .next ∷ []
 
 -- how many numbers a record has
@@ -131,9 +132,9 @@ nameIn text table n = part text (recordIn table n .name) (recordIn table n .name
 abbrev pub settingsFor : (lentRecords lentReals : ℕ) → Settings
 settingsFor n m = record { records = min 1024 (n / width); reals = min 4096 m }
 
-unfoldable pub flat : List Record → List ℕ
-flat [] = []
-flat (r ∷ rs) = fields r ++ flat rs
+unfoldable pub flat : Bytes → List Record → List ℕ
+flat text [] = []
+flat text (r ∷ rs) = fields text r ++ flat text rs
 
 -- the used entries, then "all entries beyond those used are 0"
 abbrev pub filled : {A : Type 0} → A → ℕ → List A → List A
@@ -145,8 +146,8 @@ entries (refused n p) = []
 entries (accepted es) = es
 
 -- both tables as they stand after reading, for the lent lengths
-unfoldable pub recordImage : ℕ → Reading → List ℕ
-recordImage n r = filled 0 n (flat (records (entries r)))
+unfoldable pub recordImage : Bytes → ℕ → Reading → List ℕ
+recordImage text n r = filled 0 n (flat text (records (entries r)))
 
 unfoldable pub realImage : ℕ → Reading → List Float
 realImage n r = filled zeroReal n (realTable (entries r))

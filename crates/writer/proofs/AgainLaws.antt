@@ -18,18 +18,18 @@ use Rattle.writer.specs.Answer.{refused, fitted, outcomeOf}
 use Rattle.writer.specs.Again.{writtenFrom, WriteAgainLaw}
 
 -- the tables that a reading leaves match it
-own-match : (n m : ℕ) (x : Reading) → length (recordImage n x) ≡ n → length (realImage m x) ≡ m → tablesMatch (recordImage n x) (realImage m x) x ≡ true
+own-match : (text : Bytes) (n m : ℕ) (x : Reading) → length (recordImage text n x) ≡ n → length (realImage m x) ≡ m → tablesMatch text (recordImage text n x) (realImage m x) x ≡ true
 unfolding tablesMatch
-own-match n m x e f = (λ i. same (recordImage n x) (recordImage (e i) x) && sameReals (realImage m x) (realImage (f i) x)) ∙ rw (same-refl (recordImage n x), reals-same (realImage m x))
+own-match text n m x e f = (λ i. same (recordImage text n x) (recordImage text (e i) x) && sameReals (realImage m x) (realImage (f i) x)) ∙ rw (same-refl (recordImage text n x), reals-same (realImage m x))
 
 own-written : (text : Bytes) (n m room : ℕ) (es : List Entry) → read (settingsFor n m) text ≡ accepted es → writtenFrom text n m room ≡ fitted room (tidy (statements es))
 own-written text n m room es e =
     let x = read (settingsFor n m) text in
     let a = numbers-kept n m text in
     let b = reals-kept n m text in
-    ap (outcomeOf (recordImage n x) (realImage m x) room) ((λ i. read (settingsFor (a i) (b i)) text) ∙ e)
-    ∙ (λ i. cond (tablesMatch (recordImage n (e i)) (realImage m (e i)) (accepted es)) (fitted room (tidy (statements es))) (refused 22 0))
-    ∙ ap (λ (t : Bool). cond t (fitted room (tidy (statements es))) (refused 22 0)) (own-match n m (accepted es) (ap (λ (y : Reading). length (recordImage n y)) (sym e) ∙ a) (ap (λ (y : Reading). length (realImage m y)) (sym e) ∙ b))
+    ap (outcomeOf text (recordImage text n x) (realImage m x) room) ((λ i. read (settingsFor (a i) (b i)) text) ∙ e)
+    ∙ (λ i. cond (tablesMatch text (recordImage text n (e i)) (realImage m (e i)) (accepted es)) (fitted room (tidy (statements es))) (refused 22 0))
+    ∙ ap (λ (t : Bool). cond t (fitted room (tidy (statements es))) (refused 22 0)) (own-match text n m (accepted es) (ap (λ (y : Reading). length (recordImage text n y)) (sym e) ∙ a) (ap (λ (y : Reading). length (realImage m y)) (sym e) ∙ b))
 
 pub write-again : WriteAgainLaw
 write-again text n m room es e fits =

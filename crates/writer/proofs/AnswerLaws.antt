@@ -35,13 +35,13 @@ use Rattle.writer.specs.declared.Answer.the-variants as call
 
 -- ---- the comparison of the tables
 
-module _ (table : List ℕ) (doubles : List Float) (room : ℕ) where
-  refused-as : (x : Reading) (n p : ℕ) → fresh.Refused n p ≡ freshOf table doubles x → outcomeOf table doubles room x ≡ refused n p
+module _ (text : Bytes) (table : List ℕ) (doubles : List Float) (room : ℕ) where
+  refused-as : (x : Reading) (n p : ℕ) → fresh.Refused n p ≡ freshOf text table doubles x → outcomeOf text table doubles room x ≡ refused n p
   refused-as (reading.refused m q) n p e =
       let a : m ≡ n = cc in
       let b : q ≡ p = cc in
       λ i. refused (a i) (b i)
-  refused-as (accepted es) n p e = go (tablesMatch table doubles (accepted es)) e
+  refused-as (accepted es) n p e = go (tablesMatch text table doubles (accepted es)) e
     where
       go : (t : Bool) → fresh.Refused n p ≡ cond t (fresh.Same (length es)) (fresh.Refused 22 0) → cond t (fitted room (tidy (statements es))) (refused 22 0) ≡ refused n p
       go true h = let z : _≡_ {A = ℕ} 0 1 = cc in absurd (omega arith)
@@ -51,16 +51,16 @@ module _ (table : List ℕ) (doubles : List Float) (room : ℕ) where
           λ i. refused (a i) (b i)
 
   -- tables that match are those that the records' texts are made from
-  same-as : (r : Settings) (text : Bytes) (x : Reading) (n : ℕ) → read r text ≡ x → fresh.Same n ≡ freshOf table doubles x → outcomeOf table doubles room x ≡ fitted room (recordTexts text table n)
+  same-as : (r : Settings) (x : Reading) (n : ℕ) → read r text ≡ x → fresh.Same n ≡ freshOf text table doubles x → outcomeOf text table doubles room x ≡ fitted room (recordTexts text table n)
   unfolding tablesMatch
-  same-as r text (reading.refused m q) n d e = let z : _≡_ {A = ℕ} 0 1 = cc in absurd (omega arith)
-  same-as r text (accepted es) n d e = go (tablesMatch table doubles (accepted es)) refl e
+  same-as r (reading.refused m q) n d e = let z : _≡_ {A = ℕ} 0 1 = cc in absurd (omega arith)
+  same-as r (accepted es) n d e = go (tablesMatch text table doubles (accepted es)) refl e
     where
-      go : (t : Bool) → tablesMatch table doubles (accepted es) ≡ t → fresh.Same n ≡ cond t (fresh.Same (length es)) (fresh.Refused 22 0) → cond t (fitted room (tidy (statements es))) (refused 22 0) ≡ fitted room (recordTexts text table n)
+      go : (t : Bool) → tablesMatch text table doubles (accepted es) ≡ t → fresh.Same n ≡ cond t (fresh.Same (length es)) (fresh.Refused 22 0) → cond t (fitted room (tidy (statements es))) (refused 22 0) ≡ fitted room (recordTexts text table n)
       go false f h = let z : _≡_ {A = ℕ} 0 1 = cc in absurd (omega arith)
       go true f h =
           let a : n ≡ length es = cc in
-          let t = same-eq table (recordImage (length table) (accepted es)) (and-left _ (sameReals doubles (realImage (length doubles) (accepted es))) f) in
+          let t = same-eq table (recordImage text (length table) (accepted es)) (and-left _ (sameReals doubles (realImage (length doubles) (accepted es))) f) in
           ap (fitted room) (sym (written r text es (length table) d) ∙ (λ i. recordTexts text (sym t i) (sym a i)))
 
 -- ---- what was put from the front of an output on
@@ -104,14 +104,14 @@ cleared-from out at start s rest z =
 -- ---- the call
 
 module _ (text : Bytes) (table : List ℕ) (doubles : List Float) (out : Bytes) where
-  pub writes-refused : (n p : ℕ) → fresh.Refused n p ≡ freshOf table doubles (readInto text table doubles) → {out′ : Bytes} → out′ ≡ filled 0 (length out) [] → Writes text table doubles out (call.Refused n p) out′
+  pub writes-refused : (n p : ℕ) → fresh.Refused n p ≡ freshOf text table doubles (readInto text table doubles) → {out′ : Bytes} → out′ ≡ filled 0 (length out) [] → Writes text table doubles out (call.Refused n p) out′
   writes-refused n p e z =
-      let o = refused-as table doubles (length out) (readInto text table doubles) n p e in
+      let o = refused-as text table doubles (length out) (readInto text table doubles) n p e in
       record { says = ap answered (sym o); output = z ∙ ap (answer.output (length out)) (sym o) }
 
-  module _ (n : ℕ) (e : fresh.Same n ≡ freshOf table doubles (readInto text table doubles)) {r : Cursor} {mid : Bytes} (p : Puts out front (recordTexts text table n) r mid) where
+  module _ (n : ℕ) (e : fresh.Same n ≡ freshOf text table doubles (readInto text table doubles)) {r : Cursor} {mid : Bytes} (p : Puts out front (recordTexts text table n) r mid) where
     fitted-as : tidied text table doubles (length out) ≡ fitted (length out) (recordTexts text table n)
-    fitted-as = same-as table doubles (length out) (settingsFor (length table) (length doubles)) text (readInto text table doubles) n refl e
+    fitted-as = same-as text table doubles (length out) (settingsFor (length table) (length doubles)) (readInto text table doubles) n refl e
 
     pub writes-too-long : r .full ≡ true → {out′ : Bytes} → out′ ≡ filled 0 (length mid) [] → Writes text table doubles out (call.Refused 23 0) out′
     writes-too-long f z =

@@ -13,7 +13,7 @@ use Rattle.writer.specs.Answer.{Outcome, fitted, tidied}
 abbrev pub writtenFrom : Bytes → (numbers reals room : ℕ) → Outcome
 writtenFrom text n m room =
     let x = read (settingsFor n m) text in
-    tidied text (recordImage n x) (realImage m x) room
+    tidied text (recordImage text n x) (realImage m x) room
 
 -- "From a text and its accepted tables we want tidy text"; "writing it again gives the same bytes"
 pub record WritesAgain (text : Bytes) (n m room : ℕ) (es : List Entry) : Type 0 where

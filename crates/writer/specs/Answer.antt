@@ -26,14 +26,14 @@ abbrev pub fitted : (room : ℕ) → Bytes → Outcome
 fitted room text = cond (leb (length text) room) (written text) (refused 23 0)
 
 -- "Refusals, in order: the reader's; 22 tables differ from the text; 23 [..]; 22 and 23 at place 0"
-abbrev pub outcomeOf : (records : List ℕ) → (reals : List Float) → (room : ℕ) → Reading → Outcome
-outcomeOf records reals room (reading.refused n p) = refused n p
-outcomeOf records reals room (accepted es) =
-    cond (tablesMatch records reals (accepted es)) (fitted room (tidy (statements es))) (refused 22 0)
+abbrev pub outcomeOf : Bytes → (records : List ℕ) → (reals : List Float) → (room : ℕ) → Reading → Outcome
+outcomeOf text records reals room (reading.refused n p) = refused n p
+outcomeOf text records reals room (accepted es) =
+    cond (tablesMatch text records reals (accepted es)) (fitted room (tidy (statements es))) (refused 22 0)
 
 -- what a call comes to, of a text, two lent tables and an output of so many bytes
 abbrev pub tidied : Bytes → (records : List ℕ) → (reals : List Float) → (room : ℕ) → Outcome
-tidied text records reals room = outcomeOf records reals room (readInto text records reals)
+tidied text records reals room = outcomeOf text records reals room (readInto text records reals)
 
 -- the answer: the text's length, or reason and place
 abbrev pub answered : Outcome → Answer

@@ -72,7 +72,7 @@ same-reals-requires : tie.Need-same-reals-requires
 same-reals-requires c κs = search needs
 
 -- both tests together say whether the tables are those of the reading
-compared : (c : tie.After-same-reals) (t : Bool) → (c .before .before .same-numbers .result && c .same-reals .result) ≡ t → let s = c .before .before .before .before .before .before .before .before .before .before .before .before .before .before .before .before .before in cond t (Same (c .before .before .before .before .before .count .given .0 .0)) (Refused 22 0) ≡ freshOf (s .args .records .now) (s .args .reals .now) (readInto (s .args .text .now) (s .args .records .now) (s .args .reals .now))
+compared : (c : tie.After-same-reals) (t : Bool) → (c .before .before .same-numbers .result && c .same-reals .result) ≡ t → let s = c .before .before .before .before .before .before .before .before .before .before .before .before .before .before .before .before .before in cond t (Same (c .before .before .before .before .before .count .given .0 .0)) (Refused 22 0) ≡ freshOf (s .args .text .now) (s .args .records .now) (s .args .reals .now) (readInto (s .args .text .now) (s .args .records .now) (s .args .reals .now))
 compared c t e =
     let m = c .before .before .before .before .before .before .before .before .before in
     let s = m .before .before .before .before .before .before .before .before in

@@ -17,11 +17,12 @@ use Rattle.scene.specs.Types.{typeNumber, numberFrom, kindOf, stringsAllowed, r
 use Rattle.steps.specs.Step.{step}
 use Rattle.steps.specs.Vectors.{dot, finiteVector, minus}
 use Rattle.root.specs.Root.{rootOf, rootUnits, wholeRoot}
-use Rattle.hits.specs.Sphere.{sphereHit, fromCentre, solved, firstAbove}
+use Rattle.hits.specs.Ahead.{ahead}
+use Rattle.hits.specs.Sphere.{sphereHit, fromCentre, solved, firstAhead}
 use Rattle.fresnel.specs.Fresnel as fresnel
 use Rattle.fresnel.specs.Fresnel.{fresnelOf, cos2Squared, reflected}
 use Rattle.bench.specs.Sheet.{Row, rows, answer}
 
 pub sheet : map (λ (r : Row). answer (r .question)) rows ≡ map (λ (r : Row). r .expected) rows
-unfolding read run statements gives hits found realsUsed typeNumber numberFrom kindOf stringsAllowed realsAllowed breach breachAt realAt isAbove0 isAtLeast0 is0 same all runs.run isBlank isGood wordFault countOf digits isDigit valueFrom numeralOf wellFormed isMantissa isExponent mantissa exponent before behind has indexOf isPoint isMark isSign negative unsigned coefficient up down inRange nearest numberOf step dot finiteVector minus rootOf rootUnits wholeRoot sphereHit fromCentre solved firstAbove fresnelOf cos2Squared reflected fresnel.coefficient round add sub mul div neg lt le eq
+unfolding read run statements gives hits found realsUsed typeNumber numberFrom kindOf stringsAllowed realsAllowed breach breachAt realAt isAbove0 isAtLeast0 is0 same all runs.run isBlank isGood wordFault countOf digits isDigit valueFrom numeralOf wellFormed isMantissa isExponent mantissa exponent before behind has indexOf isPoint isMark isSign negative unsigned coefficient up down inRange nearest numberOf step dot finiteVector minus rootOf rootUnits wholeRoot sphereHit fromCentre solved firstAhead ahead fresnelOf cos2Squared reflected fresnel.coefficient round add sub mul div neg lt le eq
 sheet = refl

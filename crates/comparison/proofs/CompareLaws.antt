@@ -2,11 +2,14 @@
 use mathlib.Core.Bool.{Bool, true, false, cond, _||_, false≢true}
 use mathlib.Core.List.{List, [], _∷_, map}
 use mathlib.Core.Path.{_≡_, refl, ap, sym, _∙_}
+use Prim.Native.Nat.{suc, _+_, _≤_}
+use native.Mathlib.Omega.{arith}
+use lib.ListN.{length}
 use Rattle.laws.proofs.BoolLaws.{cond-elim}
 use Rattle.scene.specs.Told.{Told}
 use Rattle.content.proofs.ContentLaws.{content-same, content-sym}
 use Rattle.content.specs.Content.{Content, contentOf, sameContent}
-use Rattle.keys.proofs.KeyLaws.{keys-stand, keys-turned}
+use Rattle.keys.proofs.KeyLaws.{keys-most, keys-stand, keys-turned}
 use Rattle.comparison.specs.Compare.{State, absent, left, right, changed, alike, stateAt, stateOf, Line, line, linesFor, compared, turned, turnedLine}
 use Rattle.keys.specs.Key.{Key, found, isFound, keysOf}
 use Rattle.keys.specs.Properties.{standsIn}
@@ -86,3 +89,21 @@ one-state l r k h e = false≢true (ap present (sym e) ∙ go (found k l) (found
     go (t ∷ x) [] = refl
     go [] (u ∷ y) = refl
     go (t ∷ x) (u ∷ y) = cond-elim (λ (s : State). present s ≡ true) (sameContent (contentOf l t) (contentOf r u)) refl refl
+
+-- ---- there are at most as many lines as primitives of both scenes
+
+lines-most : (l r : List Told) (ks : List Key) → length (linesFor l r ks) ≤ length ks
+unfolding linesFor
+lines-most l r [] = omega arith
+lines-most l r (k ∷ ks) = go (stateOf l r k) (lines-most l r ks)
+  where
+    go : (s : State) → length (linesFor l r ks) ≤ length ks → length (line s k (linesFor l r ks)) ≤ suc (length ks)
+    go absent h = omega arith
+    go alike h = omega arith
+    go left h = omega arith
+    go right h = omega arith
+    go changed h = omega arith
+
+pub compared-most : (l r : List Told) → length (compared l r) ≤ length l + length r
+unfolding compared
+compared-most l r = omega (arith, lines-most l r (keysOf l r), keys-most l r)

@@ -22,6 +22,7 @@ use Rattle.laws.proofs.BoolLaws.{and-left, and-right, cond-elim}
 use Rattle.laws.specs.Bytes.{Bytes}
 use Rattle.scene.specs.Record.{nameIn, width}
 use Rattle.scene.specs.Told.{Told}
+use Rattle.comparison.proofs.CompareLaws.{compared-most}
 use Rattle.comparison.specs.Compare.{State, absent, left, right, changed, alike, stateAt, stateOf, Line, line, linesFor, compared}
 use Rattle.comparison.specs.Hand.{keyIn, lesserOf, numbersBy, numbersOf, numbersFor, firstNumbers, numbersAfter, nextNumbers, placeBy, placeOf, stateBy, stateIn, stepIn, stepBy, stepAt, stepFor, nextStep, linesAfter, answerIn, firstLine, nextLine, handedOn, handed}
 use Rattle.comparison.specs.declared.Next.{Next}
@@ -408,3 +409,7 @@ module _ (l r : List Told) where
     -- from the start until the end, the lines of the comparison: each once, and no other
     pub handed-out : (n : ℕ) → length (compared l r) ≤ n → handed l r f n (on.Left 0) ≡ compared l r
     handed-out n b = handed-after n (on.Left 0) (let e = ap length start-lines in omega arith) ∙ start-lines
+
+    -- as many turns are enough as there are primitives of both scenes
+    pub handed-enough : (n : ℕ) → length l + length r ≤ n → handed l r f n (on.Left 0) ≡ compared l r
+    handed-enough n b = handed-out n (omega (arith, compared-most l r))

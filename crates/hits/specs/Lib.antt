@@ -1,4 +1,5 @@
 pub mod Outcome
+pub mod Ahead
 pub mod Sphere
 pub mod Plane
 pub mod Ring

@@ -1,10 +1,11 @@
 -- Where a ray meets a plane: the first steps of the ring.
 use mathlib.Core.Bool.{not, cond}
-use lib.Ieee.{lt, eq}
+use lib.Ieee.{eq}
 use lib.Ieee.Scale.{finite}
 use Rattle.steps.specs.Step.{_⊘_, +0}
 use Rattle.steps.specs.Vectors.{dot, minus}
 use Rattle.steps.specs.declared.Vector.{Vector}
+use Rattle.hits.specs.Ahead.{ahead}
 use Rattle.hits.specs.Outcome.{Outcome, hit, miss, refused}
 use Rattle.hits.specs.declared.Ray.{Ray}
 
@@ -16,4 +17,4 @@ planeHit ray c n =
     cond (not (finite m)) (refused 20)
     (cond (eq m +0) miss
     (cond (not (finite t)) (refused 20)
-    (cond (lt +0 t) (hit t) miss)))
+    (cond (ahead t) (hit t) miss)))

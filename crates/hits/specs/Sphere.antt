@@ -6,13 +6,14 @@ use Rattle.steps.specs.Step.{step, _⊕_, _⊖_, _⊗_, _⊘_, +0}
 use Rattle.steps.specs.Vectors.{dot, finiteVector, minus}
 use Rattle.steps.specs.declared.Vector.{Vector}
 use Rattle.root.specs.Root.{rootOf}
+use Rattle.hits.specs.Ahead.{ahead}
 use Rattle.hits.specs.Outcome.{Outcome, hit, miss, refused}
 use Rattle.hits.specs.declared.Ray.{Ray}
 use Rattle.hits.specs.declared.Sphere.{Sphere}
 
 -- "The hit is the first of near, far that is above 0, else a miss"
-unfoldable pub firstAbove : (near far : Float) → Outcome
-firstAbove near far = cond (lt +0 near) (hit near) (cond (lt +0 far) (hit far) miss)
+unfoldable pub firstAhead : (near far : Float) → Outcome
+firstAhead near far = cond (ahead near) (hit near) (cond (ahead far) (hit far) miss)
 
 -- "D below 0 misses; e=root D; near=((-b)-e)/a, far=((-b)+e)/a, both worked out"
 unfoldable pub solved : (a b D : Float) → Outcome
@@ -23,7 +24,7 @@ solved a b D =
     cond (not (finite D)) (refused 20)
     (cond (lt D +0) miss
     (cond (not (finite near && finite far)) (refused 20)
-    (firstAbove near far)))
+    (firstAhead near far)))
 
 -- "a=d·d (0 is 21, at this step), b=p·d, q=p·p-r·r, D=b·b-a·q"
 unfoldable pub fromCentre : (p d : Vector) (r : Float) → Outcome

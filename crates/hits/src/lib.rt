@@ -8,10 +8,11 @@ use steps::is_finite_vector;
 use steps::minus;
 use steps::step;
 ghost use mathlib.Core.Path.{_≡_};
+ghost use Rattle.hits.specs.Ahead.{ahead};
 ghost use Rattle.hits.specs.Outcome.{outcomeOf};
 ghost use Rattle.hits.specs.Plane.{planeHit};
 ghost use Rattle.hits.specs.Ring.{onRing, ringHit};
-ghost use Rattle.hits.specs.Sphere.{firstAbove, fromCentre, solved, sphereHit};
+ghost use Rattle.hits.specs.Sphere.{firstAhead, fromCentre, solved, sphereHit};
 
 pub struct Ray {
     pub origin: Vector,
@@ -37,12 +38,19 @@ pub enum Hit {
     Refused(u32),
 }
 
-fn first_above(near: f64, far: f64) -> Hit
-    ensures { λ r. ⌜ outcomeOf r ≡ firstAbove near far ⌝ }
+// The one test of a distance, for every shape.
+fn is_ahead(t: f64) -> bool
+    ensures { λ r. ⌜ r ≡ ahead t ⌝ }
 {
-    if near > 0.0 {
+    t > 0.0
+}
+
+fn first_ahead(near: f64, far: f64) -> Hit
+    ensures { λ r. ⌜ outcomeOf r ≡ firstAhead near far ⌝ }
+{
+    if is_ahead(near) {
         Hit::At(near)
-    } else if far > 0.0 {
+    } else if is_ahead(far) {
         Hit::At(far)
     } else {
         Hit::Miss
@@ -65,7 +73,7 @@ fn solve(a: f64, b: f64, discriminant: f64) -> Hit
     if !(is_finite(near) & is_finite(far)) {
         return Hit::Refused(20);
     }
-    first_above(near, far)
+    first_ahead(near, far)
 }
 
 // From the origin as seen from the centre on.
@@ -119,7 +127,7 @@ fn plane_hit(ray: Ray, c: Vector, n: Vector) -> Hit
     if !is_finite(t) {
         return Hit::Refused(20);
     }
-    if t > 0.0 { Hit::At(t) } else { Hit::Miss }
+    if is_ahead(t) { Hit::At(t) } else { Hit::Miss }
 }
 
 // Whether what the ray meets at the distance t in the ring's plane is the ring.

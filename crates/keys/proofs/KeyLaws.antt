@@ -2,6 +2,10 @@
 use mathlib.Core.Bool.{Bool, true, false, cond, _||_, or-assoc, or-comm, or-false, or-self-left, false≢true, true≢false}
 use mathlib.Core.List.{List, [], _∷_}
 use mathlib.Core.Path.{_≡_, refl, ap, sym, _∙_}
+use Prim.Native.Nat.{suc, _+_, _≤_}
+use native.Mathlib.Omega.{arith}
+use lib.ListN.{length}
+use Rattle.laws.proofs.BoolLaws.{cond-elim}
 use Rattle.scene.specs.Told.{Told}
 use Rattle.keys.proofs.OrderLaws.{same-key, key-same, before-one, before-transitive}
 use Rattle.keys.specs.Key.{Key, keyOver, sameKey, found, isFound, before, insert, insertAll, keysOf}
@@ -110,3 +114,18 @@ increasing-same (x ∷ ks) (y ∷ js) h g e = go (before x y) (sameKey x y) (bef
 -- the keys do not depend on the side
 pub keys-turned : (l r : List Told) → keysOf r l ≡ keysOf l r
 keys-turned l r = increasing-same (keysOf r l) (keysOf l r) (keys-increasing r l) (keys-increasing l r) (λ k. keys-stand r l k ∙ or-comm (isFound (found k r)) (isFound (found k l)) ∙ sym (keys-stand l r k))
+
+-- ---- there are at most as many keys as primitives
+
+insert-most : (k : Key) (ks : List Key) → length (insert k ks) ≤ suc (length ks)
+unfolding insert
+insert-most k [] = omega arith
+insert-most k (x ∷ ks) = let h = insert-most k ks in cond-elim (λ (z : List Key). length z ≤ suc (suc (length ks))) (before k x) (omega arith) (cond-elim (λ (z : List Key). length z ≤ suc (suc (length ks))) (sameKey k x) (omega arith) (omega arith))
+
+insert-all-most : (d : List Told) (ks : List Key) → length (insertAll d ks) ≤ length d + length ks
+unfolding insertAll
+insert-all-most [] ks = omega arith
+insert-all-most (t ∷ d) ks = omega (arith, insert-most (keyOver t d) (insertAll d ks), insert-all-most d ks)
+
+pub keys-most : (l r : List Told) → length (keysOf l r) ≤ length l + length r
+keys-most l r = omega (arith, insert-all-most l (insertAll r []), insert-all-most r [])

@@ -24,7 +24,7 @@ module _ (text : Bytes) (lent : List ℕ) (doubles : List Float) (r : Answer) (t
   says-of : r ≡ Accepted (length es) (length (realTable es))
   says-of = R .says ∙ ap answered e
 
-  row-of : (n : ℕ) → recordIn table n ≡ nth (records es) n
+  pub row-of : (n : ℕ) → recordIn table n ≡ nth (records es) n
   unfolding recordImage
   row-of n = ap (λ (t : List ℕ). recordIn t n) (R .table ∙ ap (recordImage text (length lent)) e) ∙ record-in text (records es) (length lent) n
 

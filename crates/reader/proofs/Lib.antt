@@ -6,3 +6,4 @@ pub mod ReadyLaws
 pub mod EndLaws
 pub mod ExchangeLaws
 pub mod ReadsLaws
+pub mod LinkLaws

@@ -3,3 +3,4 @@ pub mod Image
 pub mod Invariant
 pub mod Goes
 pub mod Exchange
+pub mod Links

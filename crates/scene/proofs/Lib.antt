@@ -19,5 +19,6 @@ pub mod ImageLaws
 pub mod GrowLaws
 pub mod TurnLaws
 pub mod ReadingLaws
+pub mod LowestLaws
 pub mod PropertyLaws
 pub mod MeaningLaws

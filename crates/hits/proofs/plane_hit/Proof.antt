@@ -1,8 +1,8 @@
 -- `hits::plane_hit` meets its contract.
 use mathlib.Core.Bool.{not, cond}
 use mathlib.Core.Path.{_≡_}
-use lib.Ieee.{lt, ofBits}
-use Rattle.steps.specs.Step.{+0}
+use lib.Ieee.{ofBits}
+use Rattle.hits.specs.Ahead.{ahead}
 use Rattle.hits.specs.Outcome.{hit, miss, refused}
 use Rattle.hits.specs.Plane.{planeHit}
 use Rattle.hits.proofs.plane_hit.Statement.{statement}
@@ -11,7 +11,7 @@ use Rattle.hits.proofs.plane_hit.Tie as tie
 -- the definition, by what the calls gave
 by-calls : (c : tie.After-is-finite2) →
     let t = c .before in let a = t .before .before .before .before .before .before .before .args in
-    planeHit (a .ray) (a .c) (a .n) ≡ cond (not (c .is-finite2 .result)) (refused 20) (cond (lt +0 (t .step .result)) (hit (t .step .result)) miss)
+    planeHit (a .ray) (a .c) (a .n) ≡ cond (not (c .is-finite2 .result)) (refused 20) (cond (ahead (t .step .result)) (hit (t .step .result)) miss)
 unfolding planeHit ofBits
 by-calls c =
     let t = c .before in
@@ -33,12 +33,14 @@ returns-3 : tie.Need-returns-3
 returns-3 c = simp (by-calls (c .before), c .if3 .taken)
 
 returns-4 : tie.Need-returns-4
-unfolding ofBits
-returns-4 c = simp (by-calls (c .before .before), c .before .if3 .left, c .if4 .taken)
+returns-4 c =
+    let i3 = c .before .before in
+    simp (by-calls (i3 .before), i3 .if3 .left, ← c .before .is-ahead .ensures, c .if4 .taken)
 
 returns-5 : tie.Need-returns-5
-unfolding ofBits
-returns-5 c = simp (by-calls (c .before .before), c .before .if3 .left, c .if4 .left)
+returns-5 c =
+    let i3 = c .before .before in
+    simp (by-calls (i3 .before), i3 .if3 .left, ← c .before .is-ahead .ensures, c .if4 .left)
 
 pub plane-hit-spec : {M : Type 1} → statement M
-plane-hit-spec = tie.close (tie.spec (λ c κs. tt) (λ c κs. tt) returns returns-2 (λ c κs. tt) (λ c κs. tt) (λ c κs. tt) (λ c κs. tt) returns-3 returns-4 returns-5)
+plane-hit-spec = tie.close (tie.spec (λ c κs. tt) (λ c κs. tt) returns returns-2 (λ c κs. tt) (λ c κs. tt) (λ c κs. tt) (λ c κs. tt) returns-3 (λ c κs. tt) returns-4 returns-5)

@@ -4,7 +4,7 @@ use mathlib.Core.Path.{_≡_}
 use lib.Ieee.{ofBits}
 use Rattle.steps.proofs.StepLaws.{div-l}
 use Rattle.hits.specs.Outcome.{refused}
-use Rattle.hits.specs.Sphere.{firstAbove, solved}
+use Rattle.hits.specs.Sphere.{firstAhead, solved}
 use Rattle.hits.proofs.solve.Statement.{statement}
 use Rattle.hits.proofs.solve.Tie as tie
 
@@ -12,7 +12,7 @@ use Rattle.hits.proofs.solve.Tie as tie
 by-calls : (c : tie.After-is-finite3) →
     let far = c .before .before in let near = far .before in let a = near .before .before .before .before .before .before .args in
     solved (a .a) (a .b) (a .discriminant) ≡
-    cond (not (c .before .is-finite2 .result && c .is-finite3 .result)) (refused 20) (firstAbove (near .step2 .result) (far .step3 .result))
+    cond (not (c .before .is-finite2 .result && c .is-finite3 .result)) (refused 20) (firstAhead (near .step2 .result) (far .step3 .result))
 unfolding solved ofBits
 by-calls c =
     let far = c .before .before in
@@ -34,7 +34,7 @@ returns-3 : tie.Need-returns-3
 returns-3 c = simp (by-calls (c .before), c .if3 .taken)
 
 returns-4 : tie.Need-returns-4
-returns-4 c = simp (by-calls (c .before .before), c .before .if3 .left) (c .first-above .ensures)
+returns-4 c = simp (by-calls (c .before .before), c .before .if3 .left) (c .first-ahead .ensures)
 
 pub solve-spec : {M : Type 1} → statement M
 solve-spec = tie.close (tie.spec (λ c κs. tt) returns returns-2 (λ c κs. tt) (λ c κs. tt) (λ c κs. tt) (λ c κs. tt) (λ c κs. tt) (λ c κs. tt) returns-3 (λ c κs. tt) returns-4)

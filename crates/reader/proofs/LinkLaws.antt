@@ -1,0 +1,38 @@
+-- The links in the lent table after a call: those of the records, whose properties are proved.
+use mathlib.Core.Bool.{true}
+use mathlib.Core.List.{List}
+use mathlib.Core.Logic.{_⊎_}
+use mathlib.Core.Option.{some}
+use mathlib.Core.Path.{_≡_, ap, subst, sym, _∙_}
+use Prim.Native.Nat.{ℕ, _<_}
+use lib.Ieee.{Float}
+use lib.ListN.{length}
+use Rattle.laws.specs.Bytes.{Bytes}
+use Rattle.reader.proofs.ExchangeLaws.{row-of}
+use Rattle.reader.proofs.ReadsLaws.{accepted-as}
+use Rattle.reader.specs.Answer.{Reads, readInto}
+use Rattle.reader.specs.Links.{ReaderLinks, RowLinks}
+use Rattle.reader.specs.declared.Answer.{Answer}
+use Rattle.scene.proofs.PropertyLaws.{modifier-latest, modifier-void, next-least, target-latest, target-none}
+use Rattle.scene.specs.Properties.{LatestBelow, Named, NextAbove, numbered}
+use Rattle.scene.specs.Reading.{Entry, accepted, statements}
+use Rattle.scene.specs.Record.{Record, recordIn, settingsFor}
+use Rattle.scene.specs.Statement.{Statement}
+
+module _ (text : Bytes) (lent : List ℕ) (doubles : List Float) (a : Answer) (table : List ℕ) (reals : List Float) (R : Reads text lent doubles a table reals) (es : List Entry) (e : readInto text lent doubles ≡ accepted es) (k : ℕ) (s : Statement) (there : numbered (statements es) k ≡ some s) where
+  row-links : RowLinks (statements es) table k s
+  row-links =
+      let r = settingsFor (length lent) (length doubles) in
+      let q = row-of text lent doubles a table reals R es e k in
+      record {
+        noModifier = λ v. ap (λ (z : Record). z .modifier) q ∙ modifier-void r text es e k s there v;
+        modifier = λ v. subst (λ (z : Record). LatestBelow (statements es) k (s .modifier) (z .modifier)) (sym q) (modifier-latest r text es e k s there v);
+        noTarget = λ t ss rs b. ap (λ (z : Record). z .target) q ∙ target-none r text es e k s there t ss rs b;
+        target = λ x b. subst (λ (z : Record). LatestBelow (statements es) k x (z .target)) (sym q) (target-latest r text es e k s there x b);
+        next = λ g. subst (λ (z : Record). ((z .next ≡ 0) × ((m : ℕ) → k < m → Named (statements es) m (s .name) → ⊥)) ⊎ NextAbove (statements es) k (s .name) (z .next)) (sym q) (next-least r text es e k s there g);
+      }
+
+pub reader-links : ReaderLinks
+reader-links text lent doubles n k table reals R =
+    let a = accepted-as (readInto text lent doubles) n k (R .says) in
+    record { entries = a .entries; reads = a .reads; rows = row-links text lent doubles _ table reals R (a .entries) (a .reads) }

@@ -59,7 +59,7 @@ with tempfile.TemporaryDirectory() as folder:
     )
     (crate / "specs" / "Rows.antt").write_text("\n".join(head) + "\n\n" + everything + "\n" + facts + "\n" + "\n".join(rows))
     with (copy / "crates.txt").open("a") as f:
-        f.write("rows: laws lexer numeral scene\n")
+        f.write("rows: laws lexer numeral_parts numeral scene\n")
     ran = subprocess.run(["rt", "check", "rows"], cwd=copy, capture_output=True, text=True)
 out = ran.stdout + ran.stderr
 differ = sorted({line.split("`")[1] for line in out.split("\n") if ": error: `row" in line})

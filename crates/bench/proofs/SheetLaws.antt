@@ -7,9 +7,10 @@ use Rattle.laws.specs.Runs as runs
 use Rattle.laws.specs.Runs.{all}
 use Rattle.lexer.specs.Class.{isBlank, isGood}
 use Rattle.lexer.specs.Word.{wordFault}
-use Rattle.numeral.specs.Count.{countOf, digits}
-use Rattle.numeral.specs.Digits.{isDigit, valueFrom}
-use Rattle.numeral.specs.Numeral.{numeralOf, wellFormed, isMantissa, isExponent, mantissa, exponent, before, behind, has, indexOf, isPoint, isMark, isSign, negative, unsigned, coefficient, up, down, inRange, nearest, numberOf}
+use Rattle.numeral.specs.Count.{countOf}
+use Rattle.numeral.specs.Numeral.{numeralOf, wellFormed, mantissa, exponent, coefficient, up, down, inRange, nearest, numberOf}
+use Rattle.numeral_parts.specs.Digits.{digits, isDigit, valueFrom}
+use Rattle.numeral_parts.specs.Parts.{isMantissa, isExponent, before, behind, has, indexOf, isPoint, isMark, isSign, negative, unsigned}
 use Rattle.scene.specs.HouseRules.{breach, breachAt, realAt, isAbove0, isAtLeast0, is0}
 use Rattle.scene.specs.Links.{gives, hits, found, realsUsed}
 use Rattle.scene.specs.Reading.{read, run, statements}

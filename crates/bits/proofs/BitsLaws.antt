@@ -1,15 +1,14 @@
 -- The bits of a NaN, and lists of reals compared one by one.
-use mathlib.Core.Bool.{Bool, true, false, not, Bool·beq, and-false}
+use mathlib.Core.Bool.{Bool, true, false, not, Bool·beq}
 use mathlib.Core.List.{List, [], _∷_}
-use mathlib.Core.Path.{_≡_, refl, ap}
-use Prim.Native.Nat.{ℕ, suc, _+_, _*_, _≤_, _<_}
-use native.Mathlib.Numerals.{add-one}
+use mathlib.Core.Path.{_≡_, refl}
+use Prim.Native.Nat.{ℕ, _+_, _*_, _≤_, _<_}
 use native.Mathlib.Omega.{arith}
 use borrow.Author.Tests.{eq-eqb, ne-eqb}
 use lib.Dec.{T, eqb}
 use lib.Ieee.{Float, nan, inf, fin, binary64, eq, isNan, toBits, level, up, down}
-use lib.ListN.{length, drop, getD, drop-of-length-le}
-use lib.Seq.{drop-cons}
+use lib.ListN.{length, drop, getD}
+use Rattle.laws.proofs.CompareLaws.{ByElement, lengths-differ, compared-end, compared-stop, compared-step}
 use Rattle.bits.specs.Bits.{sameReals}
 
 -- what equals itself is no NaN, and what does not is one
@@ -37,23 +36,19 @@ unfolding sameReals
 reals-same [] = refl
 reals-same (x ∷ xs) = rw (eq-eqb (toBits binary64 x) (toBits binary64 x) refl) (reals-same xs)
 
-pub reals-length : (a b : List Float) → (length a ≡ length b → ⊥) → sameReals a b ≡ false
+by-bits : ByElement (λ x y. eqb (toBits binary64 x) (toBits binary64 y)) sameReals
 unfolding sameReals
-reals-length [] [] h = absurd (h refl)
-reals-length [] (y ∷ b) h = refl
-reals-length (x ∷ a) [] h = refl
-reals-length (x ∷ a) (y ∷ b) h = rw (reals-length a b (λ e. h (ap suc e))) (and-false (eqb (toBits binary64 x) (toBits binary64 y)))
+by-bits = record { neither = refl; second = λ y ys. refl; first = λ x xs. refl; both = λ x xs y ys. refl }
 
--- lists of one length, from place i on: past the end, at a real that differs, and past one that agrees
+pub reals-length : (a b : List Float) → (length a ≡ length b → ⊥) → sameReals a b ≡ false
+reals-length = lengths-differ by-bits
+
 module _ (a b : List Float) (h : length a ≡ length b) (i : ℕ) where
   pub reals-end : length a ≤ i → sameReals (drop i a) (drop i b) ≡ true
-  unfolding sameReals
-  reals-end l = let m : length b ≤ i = omega arith in rw (drop-of-length-le a l, drop-of-length-le b m)
+  reals-end = compared-end by-bits a b h i
 
   pub reals-stop : i < length a → (toBits binary64 (getD a i nan) ≡ toBits binary64 (getD b i nan) → ⊥) → sameReals (drop i a) (drop i b) ≡ false
-  unfolding sameReals
-  reals-stop l e = let m : i < length b = omega arith in rw (drop-cons a i nan l, drop-cons b i nan m, ne-eqb (toBits binary64 (getD a i nan)) (toBits binary64 (getD b i nan)) e)
+  reals-stop l e = compared-stop by-bits a b h i nan l (ne-eqb (toBits binary64 (getD a i nan)) (toBits binary64 (getD b i nan)) e)
 
   pub reals-step : i < length a → toBits binary64 (getD a i nan) ≡ toBits binary64 (getD b i nan) → sameReals (drop (i + 1) a) (drop (i + 1) b) ≡ sameReals (drop i a) (drop i b)
-  unfolding sameReals
-  reals-step l e = let m : i < length b = omega arith in rw (add-one, drop-cons a i nan l, drop-cons b i nan m, eq-eqb (toBits binary64 (getD a i nan)) (toBits binary64 (getD b i nan)) e)
+  reals-step l e = compared-step by-bits a b h i nan l (eq-eqb (toBits binary64 (getD a i nan)) (toBits binary64 (getD b i nan)) e)

@@ -18,7 +18,7 @@ fn print_finish(text: &[u8], records: &[u32], count: usize, number: usize) -> bo
             let mut line = [0u8; LINE];
             let name = finish::name(text, records, count, number);
             let material_name = finish::name(text, records, count, material);
-            let n = listing::finish_line(
+            let n = finish_listing::finish_line(
                 &mut line,
                 number,
                 kind,

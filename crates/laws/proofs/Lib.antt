@@ -5,3 +5,4 @@ pub mod NatLaws
 pub mod RunLaws
 pub mod TableLaws
 pub mod ClearLaws
+pub mod CompareLaws

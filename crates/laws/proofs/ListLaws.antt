@@ -1,34 +1,20 @@
 -- Parts of a list.
 use mathlib.Core.List.{List}
-use mathlib.Core.Logic.{⊎-elim}
 use mathlib.Core.Path.{_≡_, sym, ap, _∙_}
 use Prim.Native.Nat.{ℕ, _+_, _-_, _≤_, _<_, min}
-use native.Mathlib.Nat.{min-eq-left}
 use native.Mathlib.Omega.{arith}
 use lib.ListN.{length, take, drop, drop-of-length-le, length-drop}
 use lib.Seq.{take-all}
-use Rattle.laws.proofs.NatLaws.{le-or-lt}
+use Rattle.laws.proofs.NatLaws.{cut}
 use Rattle.laws.specs.Bytes.{Bytes, part}
 
 module _ {A : Type 0} (n : ℕ) (xs : List A) where
   -- a count past the end is as good as the length
   pub drop-min : drop (min n (length xs)) xs ≡ drop n xs
-  drop-min = ⊎-elim within beyond (le-or-lt n (length xs))
-    where
-      within : n ≤ length xs → drop (min n (length xs)) xs ≡ drop n xs
-      within h = ap (λ (k : ℕ). drop k xs) (min-eq-left h)
-
-      beyond : length xs < n → drop (min n (length xs)) xs ≡ drop n xs
-      beyond h = drop-of-length-le xs {i = min n (length xs)} (omega arith) ∙ sym (drop-of-length-le xs {i = n} (omega arith))
+  drop-min = cut (λ (k : ℕ). drop k xs) n (length xs) (λ h. drop-of-length-le xs {i = length xs} (omega arith) ∙ sym (drop-of-length-le xs {i = n} (omega arith)))
 
   pub take-min : take (min n (length xs)) xs ≡ take n xs
-  take-min = ⊎-elim within beyond (le-or-lt n (length xs))
-    where
-      within : n ≤ length xs → take (min n (length xs)) xs ≡ take n xs
-      within h = ap (λ (k : ℕ). take k xs) (min-eq-left h)
-
-      beyond : length xs < n → take (min n (length xs)) xs ≡ take n xs
-      beyond h = take-all (min n (length xs)) xs (omega arith) ∙ sym (take-all n xs (omega arith))
+  take-min = cut (λ (k : ℕ). take k xs) n (length xs) (λ h. take-all (length xs) xs (omega arith) ∙ sym (take-all n xs (omega arith)))
 
 -- a part whose start and length are cut to what the text has is the part itself
 pub cut-part : (text : Bytes) (place len start size : ℕ) → start ≡ min place (length text) → size ≡ min len (length text - start) → take (start + size - start) (drop start text) ≡ part text place len

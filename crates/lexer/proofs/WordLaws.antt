@@ -22,14 +22,10 @@ module _ (text : Bytes) (at : ℕ) where
       let l : end - place ≡ run isOther (drop place text) = omega (arith, past-run isOther text place (omega arith)) in
       cc
 
-  -- the place is at least `at`, as far as the text goes, and at most the text's length, and so is the word's end
+  -- the place is at least `at`, as far as the text goes, and the word's end is at most the text's length
   pub place-least : min at (length text) ≤ wordAt text at .place
   unfolding wordAt
   place-least = past-least isBlank text at
-
-  pub place-most : wordAt text at .place ≤ length text
-  unfolding wordAt
-  place-most = past-most isBlank text at
 
   pub end-most : wordAt text at .place + wordAt text at .len ≤ length text
   unfolding wordAt

@@ -6,7 +6,7 @@ use Rattle.laws.specs.Bytes.{bytes}
 use Rattle.buffer.specs.Decimal.{digits, decimal}
 use Rattle.listing.specs.Listing.{headLine, lineOf, rowLine}
 use Rattle.buffer.specs.Put.{put}
-use Rattle.scene.specs.Record.{fieldIn}
+use Rattle.scene.specs.Record.{fieldIn, nameIn, recordIn}
 use Rattle.scene.specs.Types.{kindOf, typeName}
 
 pub accepted : headLine (record { reason = 0; place = 0; primitives = 4; reals = 14 }) ≡ bytes "primitives=4 reals=14\n"
@@ -21,12 +21,12 @@ abbrev table : List ℕ
 table = 15 ∷ 0 ∷ 0 ∷ 13 ∷ 4 ∷ 0 ∷ 0 ∷ 0 ∷ 5 ∷ 2 ∷ []
 
 pub first : rowLine (bytes "void plastic wall 0 0 5 .5 .5 .5 0 0") table 1 ≡ bytes "no=1 mod=0 alias=0 type=plastic name=wall next=2\n"
-unfolding rowLine fieldIn lineOf typeName kindOf digits decimal
+unfolding rowLine recordIn nameIn fieldIn lineOf typeName kindOf digits decimal
 first = refl
 
 -- a record that the table does not have
 pub missing : rowLine [] table 1024 ≡ bytes "no=1024 mod=0 alias=0 type=source name= next=0\n"
-unfolding rowLine fieldIn lineOf typeName kindOf digits decimal
+unfolding rowLine recordIn nameIn fieldIn lineOf typeName kindOf digits decimal
 missing = refl
 
 -- a number of ten digits

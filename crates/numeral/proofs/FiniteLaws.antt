@@ -14,8 +14,9 @@ use lib.Pow.{pow-add}
 use Rattle.laws.proofs.BoolLaws.{and-left, and-right}
 use Rattle.laws.specs.Bytes.{Bytes}
 use Rattle.numeral.proofs.TenLaws.{ten-pos, nearest-zero, nearest-sign}
-use Rattle.numeral.specs.Numeral.{value, refusal, inRange, nearest, negative, coefficient, up, down, wellFormed, numberOf, numeralOf}
-use Rattle.numeral.specs.Saturated.{limit}
+use Rattle.numeral.specs.Numeral.{value, refusal, inRange, nearest, coefficient, up, down, wellFormed, numberOf, numeralOf}
+use Rattle.numeral_parts.specs.Parts.{negative}
+use Rattle.numeral_parts.specs.Saturated.{limit}
 
 -- what lies between two finite values is finite
 between : (a x b : Float) → T (finite a) → T (finite b) → T (le a x) → T (le x b) → T (finite x)

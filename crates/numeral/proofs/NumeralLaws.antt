@@ -10,14 +10,16 @@ use borrow.Author.Tests.{lt-ltb, le-ltb}
 use lib.Dec.{ltb}
 use lib.ListN.{length, take, drop, drop-of-length-le}
 use Rattle.laws.specs.Bytes.{Bytes, byte}
-use Rattle.numeral.proofs.DigitLaws.{digits-few, digits-many, digits-bad, digits-good, short-value}
-use Rattle.numeral.proofs.PartLaws.{mantissa-bad, mantissa-is}
+use Rattle.numeral_parts.proofs.DigitLaws.{digits-few, digits-many, digits-bad, digits-good, short-value}
+use Rattle.numeral_parts.proofs.PartLaws.{mantissa-bad, mantissa-is}
 use Rattle.numeral.proofs.TenLaws.{number-capped}
-use Rattle.numeral.specs.Count.{digits, countOf}
-use Rattle.numeral.specs.Digits.{valueFrom, valueOf}
-use Rattle.numeral.specs.Numeral.{refusal, before, behind, has, indexOf, isMark, isPoint, isMantissa, isExponent, mantissa, exponent, wellFormed, coefficient, negative, unsigned, numberOf, numeralOf}
-use Rattle.numeral.specs.Parts.{either, mantissaIn, scaled, exponentIn, up, down, poweredBy}
-use Rattle.numeral.specs.Saturated.{limit, saturated}
+use Rattle.numeral.specs.Count.{countOf}
+use Rattle.numeral_parts.specs.Digits.{digits, valueFrom, valueOf}
+use Rattle.numeral.specs.Numeral.{refusal, mantissa, exponent, wellFormed, coefficient, numberOf, numeralOf}
+use Rattle.numeral.specs.Powered.{poweredBy}
+use Rattle.numeral_parts.specs.Parts.{before, behind, has, indexOf, isMark, isPoint, isMantissa, isExponent, negative, unsigned}
+use Rattle.numeral_parts.specs.Read.{either, mantissaIn, scaled, exponentIn, up, down}
+use Rattle.numeral_parts.specs.Saturated.{limit, saturated}
 use Rattle.numeral.specs.Numeral as n
 
 -- ---- counts

@@ -1,9 +1,8 @@
 -- A coefficient below the limit times or over an exact power of ten is the double nearest to the product or the quotient.
 use mathlib.Core.Bool.{Bool, true, false, cond, and-false, or-true}
-use mathlib.Core.Logic.{⊎-elim}
 use mathlib.Core.Path.{_≡_, refl, sym, ap, _∙_}
 use Prim.Native.Nat.{ℕ, zero, suc, _+_, _-_, _*_, _^_, _≤_, _<_, min}
-use native.Mathlib.Nat.{one-mul, mul-assoc, zero-mul, zero-lt-suc, mul-pos, pow-suc, min-eq-right}
+use native.Mathlib.Nat.{one-mul, mul-assoc, zero-mul, zero-lt-suc, mul-pos, pow-suc}
 use native.Mathlib.Omega.{arith}
 use borrow.Author.Tests.{lt-ltb, le-ltb, le-leb, lt-leb, eq-eqb, ne-eqb}
 use lib.Ieee.{Float, fin, binary64, round, neg, mul, div}
@@ -13,9 +12,9 @@ use lib.Ieee.Scale.{round-same}
 use lib.IntN.{pos}
 use lib.Pow.{pow-add}
 use Rattle.steps.proofs.DoubleLaws.{mul-val, div-val, neg-round, round-zero}
-use Rattle.laws.proofs.NatLaws.{le-or-lt}
+use Rattle.laws.proofs.NatLaws.{cut}
 use Rattle.numeral.specs.Numeral.{value, refusal, inRange, nearest, numberOf}
-use Rattle.numeral.specs.Saturated.{limit}
+use Rattle.numeral_parts.specs.Saturated.{limit}
 
 pub ten-pos : (k : ℕ) → 0 < 10 ^ k
 ten-pos zero = zero-lt-suc 0
@@ -91,10 +90,6 @@ module _ (s : Bool) (c up down : ℕ) where
 
 -- a coefficient past the limit is as good as the limit
 pub number-capped : (s : Bool) (c up down : ℕ) → numberOf s (min limit c) up down ≡ numberOf s c up down
-number-capped s c up down = ⊎-elim within beyond (le-or-lt c limit)
-  where
-    within : c ≤ limit → numberOf s (min limit c) up down ≡ numberOf s c up down
-    within h = ap (λ (n : ℕ). numberOf s n up down) (min-eq-right h)
-
-    beyond : limit < c → numberOf s (min limit c) up down ≡ numberOf s c up down
-    beyond h = sym (too-many s (min limit c) up down (omega arith)) ∙ too-many s c up down (omega arith)
+number-capped s c up down =
+    let e : min limit c ≡ min c limit = omega arith in
+    ap (λ (n : ℕ). numberOf s n up down) e ∙ cut (λ (n : ℕ). numberOf s n up down) c limit (λ h. sym (too-many s limit up down (omega arith)) ∙ too-many s c up down (omega arith))

@@ -1,5 +1,3 @@
-pub mod Digits
 pub mod Count
-pub mod Saturated
-pub mod Parts
 pub mod Numeral
+pub mod Powered

@@ -5,9 +5,9 @@ ghost use Prim.Native.Nat.{_*_, _^_, _≤_, _<_};
 ghost use lib.Ieee.{neg};
 ghost use lib.Ieee.Exact.{HasValue};
 ghost use Rattle.numeral.specs.Numeral.{answerOf, nearest, numberOf};
-ghost use Rattle.numeral.specs.Saturated.{limit};
+ghost use Rattle.numeral_parts.specs.Saturated.{limit};
 use crate::Numeral;
-use crate::digits::LIMIT;
+use numeral_parts::LIMIT;
 
 // 10 to the powers 0 to 22, each of which a double holds exactly.
 const TENS: [f64; 23] = [

@@ -1,17 +1,16 @@
 // Counts and numerals.
-mod digits;
 mod double;
-mod parts;
 
-use digits::Digits;
-use parts::Exponent;
-use parts::Mantissa;
+use numeral_parts::Digits;
+use numeral_parts::Exponent;
+use numeral_parts::Mantissa;
 ghost use mathlib.Core.Path.{_≡_};
 ghost use Prim.Native.Nat.{_^_, _<_};
 ghost use Rattle.laws.specs.Bytes.{part};
 ghost use Rattle.numeral.specs.Count.{counted, countOf};
 ghost use Rattle.numeral.specs.Numeral.{answerOf, numeralOf, reason};
-ghost use Rattle.numeral.specs.Parts.{exponentIn, poweredBy};
+ghost use Rattle.numeral.specs.Powered.{poweredBy};
+ghost use Rattle.numeral_parts.specs.Read.{exponentIn};
 
 pub enum Count {
     Value(u32),
@@ -45,7 +44,7 @@ pub fn count_of(word: &[u8]) -> Count
     if 5 < word.len() {
         return Count::Malformed;
     }
-    match digits::digits_from(0, word) {
+    match numeral_parts::digits_of(word) {
         Digits::Malformed => Count::Malformed,
         Digits::Value(n) => Count::Value(n as u32),
     }
@@ -62,20 +61,20 @@ pub fn count_at(text: &[u8], place: usize, len: usize) -> Count
 pub fn numeral_of(word: &[u8]) -> Numeral
     ensures { λ r. ⌜ answerOf r ≡ numeralOf (now (word .entry)) ⌝ }
 {
-    let body = parts::unsigned(word);
-    let mark = parts::index_of(body, b'e', b'E');
-    match parts::read_mantissa(&body[..mark]) {
+    let body = numeral_parts::unsigned(word);
+    let mark = numeral_parts::index_of(body, b'e', b'E');
+    match numeral_parts::read_mantissa(&body[..mark]) {
         Mantissa::Malformed => Numeral::Malformed,
         Mantissa::Value { coefficient, after } => {
             if mark < body.len() {
                 powered(
-                    parts::is_negative(word),
+                    numeral_parts::is_negative(word),
                     coefficient,
                     after,
                     &body[mark + 1..],
                 )
             } else {
-                double::number(parts::is_negative(word), coefficient, 0, after)
+                double::number(numeral_parts::is_negative(word), coefficient, 0, after)
             }
         }
     }
@@ -86,7 +85,7 @@ fn powered(negative: bool, c: u64, after: u64, word: &[u8]) -> Numeral
     requires { ⌜ after < 2 ^ 63 ⌝ }
     ensures { λ r. ⌜ answerOf r ≡ poweredBy negative c after (exponentIn (now (word .entry))) ⌝ }
 {
-    match parts::read_exponent(word) {
+    match numeral_parts::read_exponent(word) {
         Exponent::Malformed => Numeral::Malformed,
         Exponent::Up(n) => double::number(negative, c, n, after),
         Exponent::Down(n) => double::number(negative, c, 0, after + n),

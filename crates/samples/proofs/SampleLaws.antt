@@ -10,9 +10,10 @@ use Rattle.laws.specs.Bytes.{Bytes, bytes, same}
 use Rattle.laws.specs.Runs.{all, past}
 use Rattle.lexer.specs.Class.{isBlank, isGood, isOther}
 use Rattle.lexer.specs.Word.{wordFault, wordAt}
-use Rattle.numeral.specs.Count.{countOf, digits}
-use Rattle.numeral.specs.Digits.{isDigit, valueFrom}
-use Rattle.numeral.specs.Numeral.{numeralOf, wellFormed, isMantissa, isExponent, mantissa, exponent, before, behind, has, indexOf, isPoint, isMark, isSign, negative, unsigned, coefficient, up, down, inRange, nearest, numberOf}
+use Rattle.numeral.specs.Count.{countOf}
+use Rattle.numeral.specs.Numeral.{numeralOf, wellFormed, mantissa, exponent, coefficient, up, down, inRange, nearest, numberOf}
+use Rattle.numeral_parts.specs.Digits.{digits, isDigit, valueFrom}
+use Rattle.numeral_parts.specs.Parts.{isMantissa, isExponent, before, behind, has, indexOf, isPoint, isMark, isSign, negative, unsigned}
 use Rattle.scene.proofs.ExchangeLaws.{exchange-law}
 use Rattle.scene.specs.Block.{inBlock, given, referred, stands, share, shift}
 use Rattle.scene.specs.Exchange.{Exchange, Exchanged, exchangeShift, statementsIn}

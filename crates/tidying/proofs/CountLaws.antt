@@ -14,19 +14,19 @@ use Rattle.laws.proofs.BoolLaws.{and-left, and-right}
 use Rattle.laws.specs.Bytes.{Bytes}
 use Rattle.laws.specs.Runs.{all}
 use Rattle.lexer.specs.Class.{isGood}
-use Rattle.numeral.proofs.DigitLaws.{digit-low, digit-high, value-append, value-below, digits-all, digits-most}
-use Rattle.numeral.specs.Count as counts
+use Rattle.numeral_parts.proofs.DigitLaws.{digit-low, digit-high, value-append, value-below, digits-all, digits-most}
 use Rattle.numeral.specs.Count.{countOf}
-use Rattle.numeral.specs.Digits.{isDigit, valueFrom, valueOf}
+use Rattle.numeral_parts.specs.Digits as rows
+use Rattle.numeral_parts.specs.Digits.{isDigit, valueFrom, valueOf}
 use Rattle.tidying.specs.Proper.{Good}
 
 -- ---- a count that was read
 
 pub count-below : (w : Bytes) (k : ℕ) → countOf w ≡ some k → k < 10 ^ 5
 unfolding countOf
-count-below w k e = go (counts.digits 1 5 w) refl e
+count-below w k e = go (rows.digits 1 5 w) refl e
   where
-    go : (b : Bool) → counts.digits 1 5 w ≡ b → cond b (some (valueOf w)) none ≡ some k → k < 10 ^ 5
+    go : (b : Bool) → rows.digits 1 5 w ≡ b → cond b (some (valueOf w)) none ≡ some k → k < 10 ^ 5
     go true d q =
         let v : valueOf w ≡ k = cc in
         let h = value-below 0 w (digits-all 1 5 w d) in
@@ -103,7 +103,7 @@ module _ (k : ℕ) (few : k < 10 ^ 5) where
       record { filled = w .filled; good = all-good (decimal k) (w .spells .digits); short = omega arith }
 
   pub count-reads : countOf (decimal k) ≡ some k
-  unfolding countOf counts.digits
+  unfolding countOf rows.digits
   count-reads =
       let w = written k few in
       rw (le-leb 1 (length (decimal k)) (w .filled), le-leb (length (decimal k)) 5 (w .spells .short), w .spells .digits) (ap some (w .spells .value))

@@ -1,8 +1,6 @@
 -- `listing::put_links` meets its contract.
 use Rattle.buffer.proofs.PutLaws.{shown, shown-more}
-use Rattle.laws.specs.Bytes.{bytes}
-use Rattle.listing.specs.Listing.{field}
-use Rattle.scene.specs.Types.{typeName}
+use Rattle.fields.specs.Fields.{field, kindField}
 use borrow.Author.Needs.{needs}
 use Rattle.listing.proofs.put_links.Statement.{statement}
 use Rattle.listing.proofs.put_links.Tie as tie
@@ -25,32 +23,24 @@ slice-aggregate-put-field-3 c = search needs
 put-field-requires-3 : tie.Need-put-field-requires-3
 put-field-requires-3 c κs = search needs
 
-slice-aggregate-put-bytes : tie.Need-slice-aggregate-put-bytes
-slice-aggregate-put-bytes c = search needs
-
-put-bytes-requires : tie.Need-put-bytes-requires
-put-bytes-requires c κs = search needs
-
-put-type-name-requires : tie.Need-put-type-name-requires
-put-type-name-requires c κs = search needs
+put-kind-requires : tie.Need-put-kind-requires
+put-kind-requires c κs = search needs
 
 same-length : tie.Need-same-length
 same-length c = search needs
 
 returns : tie.Need-returns
 returns c =
-    let fifth = c .before .before in
-    let fourth = fifth .before .before .before .before in
-    let third = fourth .before .before .before .before .before in
+    let fourth = c .before .before in
+    let third = fourth .before .before .before .before in
     let second = third .before .before .before .before .before in
     let first = second .before .before .before .before .before in
     let a = first .before .before .before .before .args in
     let s = shown (first .put-field .ensures .0) (first .put-field .ensures .1) in
     let t = shown-more (field " mod=" (a .modifier)) s (second .put-field2 .ensures .0) (second .put-field2 .ensures .1) in
     let u = shown-more (field " alias=" (a .target)) t (third .put-field3 .ensures .0) (third .put-field3 .ensures .1) in
-    let v = shown-more (bytes " type=") u (fourth .put-bytes .ensures .0) (fourth .put-bytes .ensures .1) in
-    let w = shown-more (typeName (a .kind)) v (fifth .put-type-name .ensures .0) (fifth .put-type-name .ensures .1) in
-    (w .text, w .end)
+    let v = shown-more (kindField (a .kind)) u (fourth .put-kind .ensures .0) (fourth .put-kind .ensures .1) in
+    (v .text, v .end)
 
 pub put-links-spec : {M : Type 1} → statement M
 put-links-spec =
@@ -62,8 +52,6 @@ put-links-spec =
     put-field-requires-2
     slice-aggregate-put-field-3
     put-field-requires-3
-    slice-aggregate-put-bytes
-    put-bytes-requires
-    put-type-name-requires
+    put-kind-requires
     same-length
     returns)

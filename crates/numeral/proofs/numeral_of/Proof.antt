@@ -7,9 +7,10 @@ use borrow.Author.Needs.{needs}
 use lib.ListN.{length, length-take}
 use Rattle.laws.proofs.ListLaws.{rest-of}
 use Rattle.numeral.proofs.NumeralLaws.{numeral-bad, numeral-plain, numeral-powered}
-use Rattle.numeral.proofs.PartLaws.{after-most, unsigned-most, index-most}
+use Rattle.numeral_parts.proofs.PartLaws.{after-most, unsigned-most, index-most}
 use Rattle.numeral.specs.Numeral.{numberOf}
-use Rattle.numeral.specs.Parts.{exponentIn, poweredBy, either, readMantissa}
+use Rattle.numeral.specs.Powered.{poweredBy}
+use Rattle.numeral_parts.specs.Read.{exponentIn, either, readMantissa}
 use Rattle.numeral.proofs.numeral_of.Statement.{statement}
 use Rattle.numeral.proofs.numeral_of.Tie as tie
 

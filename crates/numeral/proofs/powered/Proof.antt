@@ -2,8 +2,9 @@
 use mathlib.Core.Path.{sym, ap, _∙_}
 use native.Mathlib.Omega.{arith}
 use borrow.Author.Needs.{needs}
-use Rattle.numeral.proofs.PartLaws.{exponent-below}
-use Rattle.numeral.specs.Parts.{poweredBy, readExponent}
+use Rattle.numeral_parts.proofs.PartLaws.{exponent-below}
+use Rattle.numeral.specs.Powered.{poweredBy}
+use Rattle.numeral_parts.specs.Read.{readExponent}
 use Rattle.numeral.proofs.powered.Statement.{statement}
 use Rattle.numeral.proofs.powered.Tie as tie
 

@@ -1,0 +1,4 @@
+pub mod Digits
+pub mod Saturated
+pub mod Parts
+pub mod Read

@@ -40,7 +40,7 @@ expect '$bin/finishes $scene $scene' "scene=$scene"$'\n'"${finishes}scene=$scene
 expect '$bin/tidy $scene $scene' "scene=$scene"$'\n'"${tidy}scene=$scene"$'\n'"$tidy" ''
 
 # A read that fails is no empty scene.
-for program in list finishes words numerals; do
+for program in list finishes words numerals rays; do
     expect '$bin/$program <$scratch' $'unreadable\n' ''
     expect '$bin/$program <&-' $'unreadable\n' ''
 done

@@ -1,3 +1,4 @@
+-- To be believed.
 pub mod Outcome
 pub mod Fresnel
 pub mod Range

@@ -1,3 +1,4 @@
+-- To be believed.
 pub mod Outcome
 pub mod Ahead
 pub mod Sphere

@@ -1,2 +1,3 @@
+-- Inner models of the proofs.
 pub mod Puts
 pub mod Arguments

@@ -1,4 +1,6 @@
+-- To be believed.
 pub mod Digits
-pub mod Saturated
 pub mod Parts
+-- Inner models of the proofs.
+pub mod Saturated
 pub mod Read

@@ -17,10 +17,6 @@ pub fn print(text: &[u8]) -> bool {
     noticed(io::write_all(STDOUT_FILENO, text))
 }
 
-pub fn print_decimal(n: usize) -> bool {
-    noticed(io::print_decimal(STDOUT_FILENO, n as u64))
-}
-
 fn write_refusal(fd: i32, reason: u32, place: usize) -> bool {
     io::write_all(fd, b"refused=")
         && io::print_decimal(fd, reason as u64)

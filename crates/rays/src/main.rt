@@ -212,6 +212,18 @@ fn take_bytes(line: &mut [u8; LINE], start: usize, bytes: &[u8]) -> usize {
     len
 }
 
+// The last line may have no end of its own. The end has to be seen: cases that a failed read cut short are not all.
+fn answer_rest(line: &mut [u8; LINE], len: usize) {
+    let mut more = [0u8; 1];
+    if libc::read(STDIN_FILENO, &mut more) != 0 {
+        print(b"unreadable\n");
+        return;
+    }
+    if 0 < len {
+        take_byte(line, len, b'\n');
+    }
+}
+
 // A loop has to end: 65,536 buffers are 4 GiB.
 fn main() {
     let mut buffer = io::large_buffer();
@@ -226,8 +238,5 @@ fn main() {
         }
         turn += 1;
     }
-    // The last line may have no end of its own.
-    if 0 < len {
-        take_byte(&mut line, len, b'\n');
-    }
+    answer_rest(&mut line, len);
 }

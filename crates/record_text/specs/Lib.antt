@@ -1,1 +1,2 @@
+-- Inner models of the proofs.
 pub mod RecordText

@@ -3,8 +3,6 @@
 use comparison::Next;
 use comparison::Place;
 use comparison::State;
-use output::print;
-use output::print_decimal;
 use pair::Side;
 use table::MOST_RECORDS;
 use table::WIDTH;
@@ -12,36 +10,27 @@ use table::WIDTH;
 // As many keys as two scenes can have, and so no fewer than the lines.
 const KEYS: usize = 2 * MOST_RECORDS;
 
-fn print_scene(side: Side) -> bool {
-    match side {
-        Side::Left => print(b"scene=left "),
-        Side::Right => print(b"scene=right "),
-    }
-}
+// Enough for any line. The longest is a key's: a name of 64 bytes, a number of 20 digits at most, and 25 more.
+const LINE: usize = 128;
 
 pub fn print_refusal(side: Side, reason: u32, place: usize) -> bool {
-    print_scene(side) && output::print_refusal(reason, place)
+    let mut line = [0u8; LINE];
+    let n = save_lines::refusal_line(&mut line, side, reason, place);
+    output::print(lexer::part(&line, 0, n))
 }
 
 pub fn print_unreadable(side: Side) -> bool {
-    print_scene(side) && print(b"unreadable\n")
-}
-
-fn print_state(state: State) -> bool {
-    match state {
-        State::OnlyLeft => print(b" state=left\n"),
-        State::OnlyRight => print(b" state=right\n"),
-        State::Changed => print(b" state=changed\n"),
-    }
+    let mut line = [0u8; LINE];
+    let n = save_lines::unreadable_line(&mut line, side);
+    output::print(lexer::part(&line, 0, n))
 }
 
 // The line of a key, which a primitive of this text has.
 fn print_line(text: &[u8], records: &[u32], number: usize, nth: usize, state: State) -> bool {
-    print(b"name=")
-        && print(finish::name(text, records, records.len() / WIDTH, number))
-        && print(b" nth=")
-        && print_decimal(nth)
-        && print_state(state)
+    let name = finish::name(text, records, records.len() / WIDTH, number);
+    let mut line = [0u8; LINE];
+    let n = save_lines::key_line(&mut line, name, nth, state);
+    output::print(lexer::part(&line, 0, n))
 }
 
 // Prints the lines one by one. Each search goes on from the key of the line before.

@@ -1,3 +1,4 @@
+-- To be believed.
 pub mod Types
 pub mod HouseRules
 pub mod Statement

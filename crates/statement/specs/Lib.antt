@@ -1,2 +1,3 @@
+-- Inner models of the proofs.
 pub mod States
 pub mod Heads

@@ -1,2 +1,3 @@
+-- To be believed.
 pub mod Step
 pub mod Vectors

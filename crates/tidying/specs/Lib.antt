@@ -1,3 +1,4 @@
+-- To be believed.
 pub mod Tidy
 pub mod Proper
 pub mod ReadBack

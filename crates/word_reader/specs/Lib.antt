@@ -1,1 +1,2 @@
+-- To be believed.
 pub mod Words

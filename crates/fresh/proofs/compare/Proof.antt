@@ -54,19 +54,27 @@ kept-reals : (c : tie.After-read) → length (c .read .last .1 .1 .0) ≡ c .bef
 kept-reals c = let h : c .before .before .before .least2 .result ≤ 4096 = omega arith in c .read .kept .1 .1 .0 ∙ length-take-le _ _ h
 
 array-share-prefix-fresh-records : tie.Need-array-share-prefix-fresh-records
-array-share-prefix-fresh-records c = front-within (c .before .before .before .before .before .read .last .1 .0) _ (kept-records (c .before .before .before .before .before))
+array-share-prefix-fresh-records c =
+    let at-read = c .before .before .before .before .before in
+    front-within (at-read .read .last .1 .0) _ (kept-records at-read)
 
 slice-aggregate-same-numbers : tie.Need-slice-aggregate-same-numbers
-slice-aggregate-same-numbers c = sym (length-take-le _ _ (front-within (c .before .before .before .before .before .before .read .last .1 .0) _ (kept-records (c .before .before .before .before .before .before))))
+slice-aggregate-same-numbers c =
+    let at-read = c .before .before .before .before .before .before in
+    sym (length-take-le _ _ (front-within (at-read .read .last .1 .0) _ (kept-records at-read)))
 
 same-numbers-requires : tie.Need-same-numbers-requires
 same-numbers-requires c κs = search needs
 
 array-share-prefix-fresh-reals : tie.Need-array-share-prefix-fresh-reals
-array-share-prefix-fresh-reals c = front-within (c .before .before .before .before .before .before .before .read .last .1 .1 .0) _ (kept-reals (c .before .before .before .before .before .before .before))
+array-share-prefix-fresh-reals c =
+    let at-read = c .before .before .before .before .before .before .before in
+    front-within (at-read .read .last .1 .1 .0) _ (kept-reals at-read)
 
 slice-aggregate-same-reals : tie.Need-slice-aggregate-same-reals
-slice-aggregate-same-reals c = sym (length-take-le _ _ (front-within (c .before .before .before .before .before .before .before .before .read .last .1 .1 .0) _ (kept-reals (c .before .before .before .before .before .before .before .before))))
+slice-aggregate-same-reals c =
+    let at-read = c .before .before .before .before .before .before .before .before in
+    sym (length-take-le _ _ (front-within (at-read .read .last .1 .1 .0) _ (kept-reals at-read)))
 
 same-reals-requires : tie.Need-same-reals-requires
 same-reals-requires c κs = search needs

@@ -11,7 +11,7 @@ use Rattle.linker.proofs.enter.Statement.{statement}
 use Rattle.linker.proofs.enter.Tie as tie
 
 returns : tie.Need-returns
-returns c = entered-none ((c .before .before .before .args) .text .now) ((c .before .before .before .args) .records .now) ((c .before .before .before .args) .count) ((c .before .before .before .args) .d) ((c .if1) .taken)
+returns c = entered-none (c .before .before .before .args .text .now) (c .before .before .before .args .records .now) (c .before .before .before .args .count) (c .before .before .before .args .d) (c .if1 .taken)
 
 wide-requires : tie.Need-wide-requires
 wide-requires c κs = search needs
@@ -32,7 +32,10 @@ narrow-requires : tie.Need-narrow-requires
 narrow-requires c κs = search needs
 
 tell-next-requires : tie.Need-tell-next-requires
-tell-next-requires c κs = omega (arith, (c .before .before .find) .ensures, latest-in-le ((c .before .before .before .before .before .before .before .before .before .before .args) .text .now) ((c .before .before .before .before .before .before .before .before .before .before .args) .records .now) ((c .before .before .before .before .part) .result .now) (min ((c .before .before .before .before .before .before .before .before .before .before .args) .count) (length ((c .before .before .before .before .before .before .before .before .before .before .args) .records .now) / width)))
+tell-next-requires c κs =
+    let at-part = c .before .before .before .before in
+    let a = at-part .before .before .before .before .before .before .args in
+    omega (arith, c .before .before .find .ensures, latest-in-le (a .text .now) (a .records .now) (at-part .part .result .now) (min (a .count) (length (a .records .now) / width)))
 
 put-row-requires : tie.Need-put-row-requires
 put-row-requires c κs = search needs
@@ -41,7 +44,16 @@ same-length : tie.Need-same-length
 same-length c = search needs
 
 returns-2 : tie.Need-returns-2
-returns-2 c = entered-one ((c .before .before .before .before .before .before .before .before .before .before .before .before .before .before .before .before .before .args) .text .now) ((c .before .before .before .before .before .before .before .before .before .before .before .before .before .before .before .before .before .args) .records .now) ((c .before .before .before .before .before .before .before .before .before .before .before .before .before .before .before .before .before .args) .count) ((c .before .before .before .before .before .before .before .before .before .before .before .before .before .before .before .before .before .args) .d) ((c .before .before .before .before .before .before .before .before .before .before .before .before .before .before .if1) .left) ((c .before .before .before .before .before .before .before .before .before .before .before .part) .ensures ∙ (λ i. part ((c .before .before .before .before .before .before .before .before .before .before .before .before .before .before .before .before .before .args) .text .now) ((c .before .before .before .before .before .before .before .before .before .before .before .before .before .wide) .ensures i) ((c .before .before .before .before .before .before .before .before .before .before .before .before .wide2) .ensures i))) ((c .before .before .before .before .before .before .before .before .before .find) .ensures) ((c .before .before .before .before .before .before .before .before .narrow) .ensures) ((c .before .before .before .before .before .before .tell-next) .ensures) ((c .before .before .put-row) .ensures)
+returns-2 c =
+    let at-tell-next = c .before .before .before .before .before .before in
+    let at-narrow = at-tell-next .before .before in
+    let at-find = at-narrow .before in
+    let at-part = at-find .before .before in
+    let at-wide2 = at-part .before in
+    let at-wide = at-wide2 .before in
+    let at-if1 = at-wide .before in
+    let a = at-if1 .before .before .before .args in
+    entered-one (a .text .now) (a .records .now) (a .count) (a .d) (at-if1 .if1 .left) (at-part .part .ensures ∙ (λ i. part (a .text .now) (at-wide .wide .ensures i) (at-wide2 .wide2 .ensures i))) (at-find .find .ensures) (at-narrow .narrow .ensures) (at-tell-next .tell-next .ensures) (c .before .before .put-row .ensures)
 
 pub enter-spec : {M : Type 1} → statement M
 enter-spec =

@@ -30,7 +30,20 @@ back-requires-2 : tie.Need-back-requires-2
 back-requires-2 c κs = search needs
 
 returns : tie.Need-returns
-returns c = let l = (c .before .before .before .before .before .before .before .look-up) .ensures in λ i. record { place = (c .before .before .before .before .before .before .before .before .before .before .before .before .args) .place; name = (c .before .before .before .before .before .before .narrow) .ensures i; size = (c .before .before .before .before .before .narrow2) .ensures i; used = (c .before .before .before .before .narrow3) .ensures i; found = ((c .before .before .before .narrow4) .ensures ∙ ap clipped l) i; source = ((c .before .before .source-of) .ensures ∙ ap (draftIn ((c .before .before .before .before .before .before .before .before .before .before .before .before .args) .records .now)) l) i; previous = (c .before .back) .ensures i; first = (c .back2) .ensures i }
+returns c =
+    let at-look-up = c .before .before .before .before .before .before .before in
+    let a = at-look-up .before .before .before .before .before .args in
+    let l = at-look-up .look-up .ensures in
+    λ i. record {
+      place = a .place;
+      name = c .before .before .before .before .before .before .narrow .ensures i;
+      size = c .before .before .before .before .before .narrow2 .ensures i;
+      used = c .before .before .before .before .narrow3 .ensures i;
+      found = (c .before .before .before .narrow4 .ensures ∙ ap clipped l) i;
+      source = (c .before .before .source-of .ensures ∙ ap (draftIn (a .records .now)) l) i;
+      previous = c .before .back .ensures i;
+      first = c .back2 .ensures i;
+    }
 
 pub look-spec : {M : Type 1} → statement M
 look-spec =

@@ -45,7 +45,12 @@ same-length-4 : tie.Need-same-length-4
 same-length-4 c = search needs
 
 returns : tie.Need-returns
-returns c = left-refused (c .before .before .before .before .before .before .before .before .before .before .before .before .before .before .before .before .before .before .before .before .before .before .before .args .left .now) (c .before .before .before .before .before .before .before .before .before .before .before .before .before .before .before .before .before .before .before .before .before .before .before .args .left-records .now) (c .before .before .before .before .before .before .before .before .before .before .before .before .before .before .before .before .before .before .before .before .before .before .before .args .left-reals .now) (c .before .before .before .before .before .before .before .before .before .before .before .before .before .before .before .before .before .before .before .before .before .before .before .args .right .now) (c .before .before .before .before .before .before .before .before .before .before .before .before .before .before .before .before .before .before .before .before .before .before .before .args .right-records .now) (c .before .before .before .before .before .before .before .before .before .before .before .before .before .before .before .before .before .before .before .before .before .before .before .args .right-reals .now) _ _ _ _ _ _ (rw (c .before .before .before .before .before .before .before .before .reason .given .1) at (c .before .before .before .before .before .before .before .before .before .before .before .before .before .before .read .ensures)) (c .before .before .before .before .clear .ensures .0) (c .before .before .before .before .clear .ensures .1)
+returns c =
+    let at-clear = c .before .before .before .before in
+    let at-reason = at-clear .before .before .before .before in
+    let at-read = at-reason .before .before .before .before .before .before in
+    let a = at-read .before .before .before .before .before .before .before .before .before .args in
+    left-refused (a .left .now) (a .left-records .now) (a .left-reals .now) (a .right .now) (a .right-records .now) (a .right-reals .now) _ _ _ _ _ _ (rw (at-reason .reason .given .1) at (at-read .read .ensures)) (at-clear .clear .ensures .0) (at-clear .clear .ensures .1)
 
 same-length-5 : tie.Need-same-length-5
 same-length-5 c = search needs
@@ -60,7 +65,14 @@ same-length-8 : tie.Need-same-length-8
 same-length-8 c = search needs
 
 returns-2 : tie.Need-returns-2
-returns-2 c = right-refused (c .before .before .before .before .before .before .before .before .before .before .before .before .before .before .before .before .before .before .before .before .before .before .before .before .before .before .before .before .before .before .before .before .before .args .left .now) (c .before .before .before .before .before .before .before .before .before .before .before .before .before .before .before .before .before .before .before .before .before .before .before .before .before .before .before .before .before .before .before .before .before .args .left-records .now) (c .before .before .before .before .before .before .before .before .before .before .before .before .before .before .before .before .before .before .before .before .before .before .before .before .before .before .before .before .before .before .before .before .before .args .left-reals .now) (c .before .before .before .before .before .before .before .before .before .before .before .before .before .before .before .before .before .before .before .before .before .before .before .before .before .before .before .before .before .before .before .before .before .args .right .now) (c .before .before .before .before .before .before .before .before .before .before .before .before .before .before .before .before .before .before .before .before .before .before .before .before .before .before .before .before .before .before .before .before .before .args .right-records .now) (c .before .before .before .before .before .before .before .before .before .before .before .before .before .before .before .before .before .before .before .before .before .before .before .before .before .before .before .before .before .before .before .before .before .args .right-reals .now) _ _ _ _ _ _ _ _ _ _ (rw (c .before .before .before .before .before .before .before .before .before .before .before .before .before .before .before .before .before .before .m .given .1) at (c .before .before .before .before .before .before .before .before .before .before .before .before .before .before .before .before .before .before .before .before .before .before .before .before .read .ensures)) (rw (c .before .before .before .before .before .before .before .before .reason2 .given .1) at (c .before .before .before .before .before .before .before .before .before .before .before .before .before .before .read2 .ensures)) (c .before .before .before .before .clear2 .ensures .0 ∙ ap (λ (n : ℕ). replicate n 0) (c .before .before .before .before .before .before .before .before .before .before .before .before .before .before .before .before .before .before .before .before .before .before .before .before .read .kept .1 .0)) (c .before .before .before .before .clear2 .ensures .1 ∙ ap (λ (n : ℕ). replicate n zeroReal) (c .before .before .before .before .before .before .before .before .before .before .before .before .before .before .before .before .before .before .before .before .before .before .before .before .read .kept .1 .1 .0))
+returns-2 c =
+    let at-clear2 = c .before .before .before .before in
+    let at-reason2 = at-clear2 .before .before .before .before in
+    let at-read2 = at-reason2 .before .before .before .before .before .before in
+    let at-m = at-read2 .before .before .before .before in
+    let at-read = at-m .before .before .before .before .before .before in
+    let a = at-read .before .before .before .before .before .before .before .before .before .args in
+    right-refused (a .left .now) (a .left-records .now) (a .left-reals .now) (a .right .now) (a .right-records .now) (a .right-reals .now) _ _ _ _ _ _ _ _ _ _ (rw (at-m .m .given .1) at (at-read .read .ensures)) (rw (at-reason2 .reason2 .given .1) at (at-read2 .read2 .ensures)) (at-clear2 .clear2 .ensures .0 ∙ ap (λ (n : ℕ). replicate n 0) (at-read .read .kept .1 .0)) (at-clear2 .clear2 .ensures .1 ∙ ap (λ (n : ℕ). replicate n zeroReal) (at-read .read .kept .1 .1 .0))
 
 same-length-9 : tie.Need-same-length-9
 same-length-9 c = search needs
@@ -75,7 +87,12 @@ same-length-12 : tie.Need-same-length-12
 same-length-12 c = search needs
 
 returns-3 : tie.Need-returns-3
-returns-3 c = both-read (c .before .before .before .before .before .before .before .before .before .before .before .before .before .before .before .before .before .before .before .before .before .before .before .before .before .before .args .left .now) (c .before .before .before .before .before .before .before .before .before .before .before .before .before .before .before .before .before .before .before .before .before .before .before .before .before .before .args .left-records .now) (c .before .before .before .before .before .before .before .before .before .before .before .before .before .before .before .before .before .before .before .before .before .before .before .before .before .before .args .left-reals .now) (c .before .before .before .before .before .before .before .before .before .before .before .before .before .before .before .before .before .before .before .before .before .before .before .before .before .before .args .right .now) (c .before .before .before .before .before .before .before .before .before .before .before .before .before .before .before .before .before .before .before .before .before .before .before .before .before .before .args .right-records .now) (c .before .before .before .before .before .before .before .before .before .before .before .before .before .before .before .before .before .before .before .before .before .before .before .before .before .before .args .right-reals .now) _ _ _ _ _ _ _ _ (rw (c .before .before .before .before .before .before .before .before .before .before .before .m .given .1) at (c .before .before .before .before .before .before .before .before .before .before .before .before .before .before .before .before .before .read .ensures)) (rw (c .before .n .given .1) at (c .before .before .before .before .before .before .before .read2 .ensures))
+returns-3 c =
+    let at-read2 = c .before .before .before .before .before .before .before in
+    let at-m = at-read2 .before .before .before .before in
+    let at-read = at-m .before .before .before .before .before .before in
+    let a = at-read .before .before .before .before .before .before .before .before .before .args in
+    both-read (a .left .now) (a .left-records .now) (a .left-reals .now) (a .right .now) (a .right-records .now) (a .right-reals .now) _ _ _ _ _ _ _ _ (rw (at-m .m .given .1) at (at-read .read .ensures)) (rw (c .before .n .given .1) at (at-read2 .read2 .ensures))
 
 pub read-both-spec : {M : Type 1} → statement M
 read-both-spec =

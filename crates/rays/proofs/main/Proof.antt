@@ -42,14 +42,11 @@ loop-less c = search needs
 loop-again : tie.Need-loop-again Inv-loop μ-loop
 loop-again c = search needs
 
-take-byte-requires : tie.Need-take-byte-requires Inv-loop μ-loop
-take-byte-requires c κs = search needs
+answer-rest-requires : tie.Need-answer-rest-requires Inv-loop μ-loop
+answer-rest-requires c κs = search needs
 
 returns : tie.Need-returns Inv-loop μ-loop
 returns c = search needs
-
-returns-2 : tie.Need-returns-2 Inv-loop μ-loop
-returns-2 c = search needs
 
 pub main-spec : {M : Type 1} → statement M
 main-spec =
@@ -67,6 +64,5 @@ main-spec =
     add-turn
     loop-less
     loop-again
-    take-byte-requires
-    returns
-    returns-2)
+    answer-rest-requires
+    returns)

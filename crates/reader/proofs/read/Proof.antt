@@ -20,14 +20,20 @@ same-length-2 c = search needs
 
 returns : tie.Need-returns
 unfolding lib.Ieee.ofBits
-returns c = refused-reads _ (c .before .before .before .before .before .before .before .before .before .before .before .args .records .now) (c .before .before .before .before .before .before .before .before .before .before .before .args .reals .now) _ _ _ _ (too-long (c .before .before .before .before .before .before .before .before .before .before .before .args .text .now) (c .before .before .before .before .before .before .before .before .before .before .before .args .records .now) (c .before .before .before .before .before .before .before .before .before .before .before .args .reals .now) (c .if1 .taken)) (c .before .before .before .before .before .clear .ensures .0) (c .before .before .before .before .before .clear .ensures .1)
+returns c =
+    let at-clear = c .before .before .before .before .before in
+    let a = at-clear .before .before .before .before .before .before .args in
+    refused-reads _ (a .records .now) (a .reals .now) _ _ _ _ (too-long (a .text .now) (a .records .now) (a .reals .now) (c .if1 .taken)) (at-clear .clear .ensures .0) (at-clear .clear .ensures .1)
 
 settings-for-requires : tie.Need-settings-for-requires
 settings-for-requires c κs = search needs
 
 run-requires : tie.Need-run-requires
 unfolding lib.Ieee.ofBits
-run-requires c κs = first-inv _ (c .before .before .before .before .before .before .before .before .before .before .before .before .before .before .args .records .now) (c .before .before .before .before .before .before .before .before .before .before .before .before .before .before .args .reals .now) _ _ (c .before .before .before .before .before .before .before .before .clear .ensures .0) (c .before .before .before .before .before .before .before .before .clear .ensures .1) (c .before .before .before .if1 .left) _ (c .before .before .settings-for .ensures)
+run-requires c κs =
+    let at-clear = c .before .before .before .before .before .before .before .before in
+    let a = at-clear .before .before .before .before .before .before .args in
+    first-inv _ (a .records .now) (a .reals .now) _ _ (at-clear .clear .ensures .0) (at-clear .clear .ensures .1) (c .before .before .before .if1 .left) _ (c .before .before .settings-for .ensures)
 
 enum-known-n : tie.Need-enum-known-n
 enum-known-n c = search needs
@@ -45,7 +51,13 @@ same-length-4 : tie.Need-same-length-4
 same-length-4 c = search needs
 
 returns-2 : tie.Need-returns-2
-returns-2 c = accepted-reads _ (c .before .before .before .before .before .before .before .before .before .before .before .before .before .before .before .before .before .before .before .before .before .before .args .records .now) (c .before .before .before .before .before .before .before .before .before .before .before .before .before .before .before .before .before .before .before .before .before .before .args .reals .now) (c .before .before .before .before .before .before .before .before .before .before .settings-for .result) (c .before .before .before .before .before .before .before .before .before .before .settings-for .ensures ∙ (λ i. settingsFor (c .before .before .before .before .before .before .before .before .before .before .before .before .before .before .before .before .clear .kept .0 i) (c .before .before .before .before .before .before .before .before .before .before .before .before .before .before .before .before .clear .kept .1 .0 i))) (c .before .before .before .before .before .before .before .before .before .before .before .if1 .left) _ _ _ _ (rw (c .before .n .given .1) at (c .before .before .before .before .before .before .before .run .ensures)) (c .before .before .before .before .before .before .before .run .kept .1 .0 ∙ c .before .before .before .before .before .before .before .before .before .before .before .before .before .before .before .before .clear .kept .0) (c .before .before .before .before .before .before .before .run .kept .1 .1 .0 ∙ c .before .before .before .before .before .before .before .before .before .before .before .before .before .before .before .before .clear .kept .1 .0)
+returns-2 c =
+    let at-run = c .before .before .before .before .before .before .before in
+    let at-settings-for = at-run .before .before .before in
+    let at-if1 = at-settings-for .before in
+    let at-clear = at-if1 .before .before .before .before .before in
+    let a = at-clear .before .before .before .before .before .before .args in
+    accepted-reads _ (a .records .now) (a .reals .now) (at-settings-for .settings-for .result) (at-settings-for .settings-for .ensures ∙ (λ i. settingsFor (at-clear .clear .kept .0 i) (at-clear .clear .kept .1 .0 i))) (at-if1 .if1 .left) _ _ _ _ (rw (c .before .n .given .1) at (at-run .run .ensures)) (at-run .run .kept .1 .0 ∙ at-clear .clear .kept .0) (at-run .run .kept .1 .1 .0 ∙ at-clear .clear .kept .1 .0)
 
 same-length-5 : tie.Need-same-length-5
 same-length-5 c = search needs
@@ -55,7 +67,15 @@ same-length-6 c = search needs
 
 returns-3 : tie.Need-returns-3
 unfolding lib.Ieee.ofBits
-returns-3 c = refused-reads _ (c .before .before .before .before .before .before .before .before .before .before .before .before .before .before .before .before .before .before .before .before .before .before .before .before .before .before .before .before .before .args .records .now) (c .before .before .before .before .before .before .before .before .before .before .before .before .before .before .before .before .before .before .before .before .before .before .before .before .before .before .before .before .before .args .reals .now) _ _ _ _ (reads-as _ (c .before .before .before .before .before .before .before .before .before .before .before .before .before .before .before .before .before .before .before .before .before .before .before .before .before .before .before .before .before .args .records .now) (c .before .before .before .before .before .before .before .before .before .before .before .before .before .before .before .before .before .before .before .before .before .before .before .before .before .before .before .before .before .args .reals .now) (c .before .before .before .before .before .before .before .before .before .before .before .before .before .before .before .before .before .settings-for .result) (c .before .before .before .before .before .before .before .before .before .before .before .before .before .before .before .before .before .settings-for .ensures ∙ (λ i. settingsFor (c .before .before .before .before .before .before .before .before .before .before .before .before .before .before .before .before .before .before .before .before .before .before .before .clear .kept .0 i) (c .before .before .before .before .before .before .before .before .before .before .before .before .before .before .before .before .before .before .before .before .before .before .before .clear .kept .1 .0 i))) (c .before .before .before .before .before .before .before .before .before .before .before .before .before .before .before .before .before .before .if1 .left) ∙ (rw (c .before .before .before .before .before .before .before .before .reason .given .1) at (c .before .before .before .before .before .before .before .before .before .before .before .before .before .before .run .ensures))) (c .before .before .before .before .clear2 .ensures .0 ∙ ap (λ (n : ℕ). replicate n 0) (c .before .before .before .before .before .before .before .before .before .before .before .before .before .before .run .kept .1 .0 ∙ c .before .before .before .before .before .before .before .before .before .before .before .before .before .before .before .before .before .before .before .before .before .before .before .clear .kept .0)) (c .before .before .before .before .clear2 .ensures .1 ∙ ap (λ (n : ℕ). replicate n zeroReal) (c .before .before .before .before .before .before .before .before .before .before .before .before .before .before .run .kept .1 .1 .0 ∙ c .before .before .before .before .before .before .before .before .before .before .before .before .before .before .before .before .before .before .before .before .before .before .before .clear .kept .1 .0))
+returns-3 c =
+    let at-clear2 = c .before .before .before .before in
+    let at-reason = at-clear2 .before .before .before .before in
+    let at-run = at-reason .before .before .before .before .before .before in
+    let at-settings-for = at-run .before .before .before in
+    let at-if1 = at-settings-for .before in
+    let at-clear = at-if1 .before .before .before .before .before in
+    let a = at-clear .before .before .before .before .before .before .args in
+    refused-reads _ (a .records .now) (a .reals .now) _ _ _ _ (reads-as _ (a .records .now) (a .reals .now) (at-settings-for .settings-for .result) (at-settings-for .settings-for .ensures ∙ (λ i. settingsFor (at-clear .clear .kept .0 i) (at-clear .clear .kept .1 .0 i))) (at-if1 .if1 .left) ∙ (rw (at-reason .reason .given .1) at (at-run .run .ensures))) (at-clear2 .clear2 .ensures .0 ∙ ap (λ (n : ℕ). replicate n 0) (at-run .run .kept .1 .0 ∙ at-clear .clear .kept .0)) (at-clear2 .clear2 .ensures .1 ∙ ap (λ (n : ℕ). replicate n zeroReal) (at-run .run .kept .1 .1 .0 ∙ at-clear .clear .kept .1 .0))
 
 pub read-spec : {M : Type 1} → statement M
 read-spec =

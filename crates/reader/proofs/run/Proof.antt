@@ -19,34 +19,43 @@ between-requires : tie.Need-between-requires Inv-loop μ-loop
 between-requires c κs = search needs
 
 loop-holds : tie.Need-loop-holds Inv-loop μ-loop
-loop-holds c = (subst (Inv _ _ _ _) (sym ((c .between) .ensures)) (c .before .before .before .before .pre), refl, refl)
+loop-holds c = (subst (Inv _ _ _ _) (sym (c .between .ensures)) (c .before .before .before .before .pre), refl, refl)
 
 next-step-requires : tie.Need-next-step-requires Inv-loop μ-loop
-next-step-requires c κs = (c .before .before .loop) .inv .0
+next-step-requires c κs = c .before .before .loop .inv .0
 
 apply-requires : tie.Need-apply-requires Inv-loop μ-loop
-apply-requires c κs = (c .before .before .next-step) .ensures
+apply-requires c κs = c .before .before .next-step .ensures
 
 enum-known-t : tie.Need-enum-known-t Inv-loop μ-loop
 enum-known-t c = search needs
 
 loop-less : tie.Need-loop-less Inv-loop μ-loop
-loop-less c = let x = rw ((c .before .t) .given .1) at ((c .before .before .before .before .before .before .before .apply) .ensures) in let l = within-text _ _ _ _ _ (x .0) in let m = x .1 in omega arith
+loop-less c = let x = rw (c .before .t .given .1) at (c .before .before .before .before .before .before .before .apply .ensures) in let l = within-text _ _ _ _ _ (x .0) in let m = x .1 in omega arith
 
 loop-again : tie.Need-loop-again Inv-loop μ-loop
-loop-again c = ((rw ((c .before .t) .given .1) at ((c .before .before .before .before .before .before .before .apply) .ensures)) .0, (c .before .before .before .before .before .before .before .apply) .kept .1 .0 ∙ (c .before .before .before .before .before .before .before .before .before .before .before .before .before .loop) .inv .1, (c .before .before .before .before .before .before .before .apply) .kept .1 .1 .0 ∙ (c .before .before .before .before .before .before .before .before .before .before .before .before .before .loop) .inv .2)
+loop-again c =
+    let at-apply = c .before .before .before .before .before .before .before in
+    let at-loop = at-apply .before .before .before .before .before .before in
+    ((rw (c .before .t .given .1) at (at-apply .apply .ensures)) .0, at-apply .apply .kept .1 .0 ∙ at-loop .loop .inv .1, at-apply .apply .kept .1 .1 .0 ∙ at-loop .loop .inv .2)
 
 enum-known-r : tie.Need-enum-known-r Inv-loop μ-loop
 enum-known-r c = search needs
 
 same-length : tie.Need-same-length Inv-loop μ-loop
-same-length c = (c .before .before .before .before .before .before .before .apply) .kept .1 .0 ∙ (c .before .before .before .before .before .before .before .before .before .before .before .before .before .loop) .inv .1
+same-length c =
+    let at-apply = c .before .before .before .before .before .before .before in
+    let at-loop = at-apply .before .before .before .before .before .before in
+    at-apply .apply .kept .1 .0 ∙ at-loop .loop .inv .1
 
 same-length-2 : tie.Need-same-length-2 Inv-loop μ-loop
-same-length-2 c = (c .before .before .before .before .before .before .before .apply) .kept .1 .1 .0 ∙ (c .before .before .before .before .before .before .before .before .before .before .before .before .before .loop) .inv .2
+same-length-2 c =
+    let at-apply = c .before .before .before .before .before .before .before in
+    let at-loop = at-apply .before .before .before .before .before .before in
+    at-apply .apply .kept .1 .1 .0 ∙ at-loop .loop .inv .2
 
 returns : tie.Need-returns Inv-loop μ-loop
-returns c = rw ((c .before .r) .given .1) at ((c .before .before .before .before .before .before .before .apply) .ensures)
+returns c = rw (c .before .r .given .1) at (c .before .before .before .before .before .before .before .apply .ensures)
 
 pub run-spec : {M : Type 1} → statement M
 run-spec =

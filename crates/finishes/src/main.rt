@@ -56,7 +56,7 @@ fn show(text: &[u8]) -> bool {
 
 // Answers whether to go on with the next text: not after a failed write.
 fn show_text(number: usize) -> bool {
-    let mut text = [0u8; input::MOST_BYTES];
+    let mut text = [0u8; table::MOST_BYTES];
     match input::load(number, &mut text) {
         Loaded::Text(n) => input::print_heading(number) && show(lexer::part(&text, 0, n)),
         Loaded::TooLong => input::print_heading(number) && output::print_refusal(1, 0),

@@ -1,11 +1,11 @@
 -- Lent tables beside those of a fresh reading at cut sizes.
 use mathlib.Core.Bool.{Bool, cond, _&&_}
-use mathlib.Core.List.{List, _++_}
+use mathlib.Core.List.{List}
 use mathlib.Core.Path.{_≡_, refl, ap, sym, _∙_}
-use Prim.Native.Nat.{ℕ, _/_, _≤_, min}
+use Prim.Native.Nat.{ℕ, _/_, min}
 use native.Mathlib.Omega.{arith}
 use lib.Ieee.{Float}
-use lib.ListN.{length, length-append}
+use lib.ListN.{length}
 use Rattle.bits.specs.Bits.{sameReals}
 use Rattle.laws.specs.Bytes.{Bytes, same}
 use Rattle.reader.proofs.ReadsLaws.{refused-as, accepted-as}
@@ -17,10 +17,6 @@ use Rattle.scene.specs.Reading.{Reading, read}
 use Rattle.scene.specs.Record.{entries, filled, flat, realImage, realTable, recordImage, records, width}
 use Rattle.fresh.specs.Fresh.{tablesMatch, freshOf}
 use Rattle.fresh.specs.declared.Fresh.the-variants.{Same, Refused}
-
--- a list is within one that it begins
-pub front-within : {A : Type 0} (xs ys : List A) {n : ℕ} → length xs ≡ n → n ≤ length (xs ++ ys)
-front-within xs ys e = omega (arith, length-append xs ys)
 
 -- fresh tables as long as the lent ones, but no longer than a reading can use
 module _ (table : List ℕ) (doubles : List Float) (text : Bytes) (xs : List ℕ) (ys : List Float) (f : length xs ≡ min (length table) 10240) (g : length ys ≡ min (length doubles) 4096) (xs′ : List ℕ) (ys′ : List Float) where

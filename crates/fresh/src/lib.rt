@@ -22,12 +22,6 @@ fn number_at(table: &[u32], i: usize) -> u32
     if i < table.len() { table[i] } else { 0 }
 }
 
-fn real_at(table: &[f64], i: usize) -> f64
-    ensures { λ r. ⌜ r ≡ getD (now (table .entry)) i zeroReal ⌝ }
-{
-    if i < table.len() { table[i] } else { 0.0 }
-}
-
 // Whether a table has the numbers of a fresh one, and 0 behind them.
 fn same_numbers(table: &[u32], fresh: &[u32]) -> bool
     ensures { λ r. ⌜ r ≡ same (now (table .entry)) (filled 0 (length (now (table .entry))) (now (fresh .entry))) ⌝ }
@@ -53,7 +47,7 @@ fn same_reals(table: &[f64], fresh: &[f64]) -> bool
     }
     let mut k = 0;
     while k < table.len() {
-        if bits::bits_of(table[k]) != bits::bits_of(real_at(fresh, k)) {
+        if bits::bits_of(table[k]) != bits::bits_of(table::real_at(fresh, k)) {
             return false;
         }
         k += 1;

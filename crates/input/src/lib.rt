@@ -4,9 +4,6 @@ use libc::STDERR_FILENO;
 use libc::STDIN_FILENO;
 use libc::STDOUT_FILENO;
 
-// The longest text that a reader takes, and so the longest buffer for one.
-pub const MOST_BYTES: usize = 65536;
-
 // How many bytes of the buffer a text has; or why it has none.
 pub enum Loaded {
     Text(usize),

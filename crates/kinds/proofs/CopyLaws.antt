@@ -1,12 +1,13 @@
 -- A part of a table copied byte by byte.
-use mathlib.Core.List.{List, [], _++_, append-nil}
-use mathlib.Core.Path.{_≡_, refl, sym, ap, _∙_}
-use Prim.Native.Nat.{ℕ, suc, _+_, _≤_, _<_}
+use mathlib.Core.List.{_++_, append-nil}
+use mathlib.Core.Path.{_≡_, sym, ap, _∙_}
+use Prim.Native.Nat.{ℕ, _+_, _≤_, _<_}
 use native.Mathlib.Nat.{zero-add}
 use native.Mathlib.Numerals.{add-one}
 use native.Mathlib.Omega.{arith}
-use lib.ListN.{length, length-drop, take, drop, getD, set, drop-of-length-le}
-use lib.Seq.{getD-drop, getD-take, length-take-le, paste, paste-suc, take-take}
+use lib.ListN.{length, take, drop, getD, set, drop-of-length-le}
+use lib.Seq.{paste, paste-suc, take-take}
+use Rattle.laws.proofs.ListLaws.{part-at, part-length}
 use Rattle.laws.specs.Bytes.{Bytes, part}
 
 -- the first i of n bytes from a place on, over as many others
@@ -21,13 +22,13 @@ module _ (from : Bytes) (place n : ℕ) (over : Bytes) (l : length over ≡ n) (
       ∙ ap (copied from place n over) (sym (add-one i))
     where
       got : getD from (place + i) d ≡ getD (part from place n) i d
-      got = sym (getD-take n (drop place from) i d h ∙ getD-drop place from i d)
+      got = sym (part-at from place n i d h)
 
       inside : 0 + i < length over
       inside = omega arith
 
       within : i < length (part from place n)
-      within = omega (arith, length-take-le n (drop place from) (omega (arith, length-drop place from)))
+      within = omega (arith, part-length from place n fits)
 
   pub copied-all : (i : ℕ) → i ≡ n → copied from place n over i ≡ part from place n
   copied-all i e =

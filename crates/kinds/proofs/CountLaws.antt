@@ -1,5 +1,5 @@
 -- The tables of counts give the rules of the types.
-use mathlib.Core.Bool.{Bool, true, _&&_, _||_}
+use mathlib.Core.Bool.{true, _&&_, _||_}
 use mathlib.Core.List.{List, map}
 use mathlib.Core.Path.{_≡_, refl, sym, ap, _∙_}
 use Prim.Native.Nat.{ℕ, _+_, _-_, _%_, _≤_, _<_}
@@ -7,9 +7,9 @@ use borrow.Author.Tests.{eq-eqb, le-ltb, lt-ltb, ne-eqb}
 use lib.Dec.{eqb, leb}
 use lib.ListN.{getD}
 use Rattle.laws.proofs.TableLaws.{entry-means}
-use Rattle.scene.specs.Types.{Rule, exactly, orMore, either, corners, any, allows, Kind, types, stringsAllowed, realsAllowed}
-use Rattle.kinds.proofs.RowLaws.{noType, row-kind, no-row}
-use Rattle.kinds.specs.Rules.{ruleOf}
+use Rattle.scene.specs.Types.{Rule, exactly, orMore, either, corners, any, allows, Kind, noType, types, stringsAllowed, realsAllowed}
+use Rattle.kinds.proofs.RowLaws.{row-kind, no-row}
+use Rattle.kinds.specs.Rules.{rowNumber, ruleOf}
 
 -- a rule's number
 abbrev code : Rule → ℕ
@@ -26,7 +26,7 @@ strings = map (λ (t : Kind). code (t .strings)) types
 abbrev reals : List ℕ
 reals = map (λ (t : Kind). code (t .reals)) types
 
-module _ (t k n : ℕ) (r : k ≡ t - 1) where
+module _ (t k n : ℕ) (r : k ≡ rowNumber t) where
   pub strings-in : (d : ℕ) → k < 25 → allows (ruleOf (getD strings k d)) n ≡ stringsAllowed t n
   unfolding ruleOf stringsAllowed
   strings-in d h = ap (λ (q : Rule). allows q n) (entry-means ruleOf (λ (x : Kind). x .strings) strings types refl k d noType h ∙ ap (λ (x : Kind). x .strings) (row-kind t k r))

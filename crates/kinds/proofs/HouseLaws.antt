@@ -1,4 +1,5 @@
--- A search along the table of house rules.
+-- A search along the table of house rules. A rule is its type times 100, its real times 10 and what it asks: 240 is real 4 of type
+-- 2, above 0.
 use mathlib.Core.Bool.{Bool, true, false, not, _&&_, _||_, true≢false}
 use mathlib.Core.List.{List, [], _∷_, map}
 use mathlib.Core.Logic.{_⊎_, inl, inr}

@@ -9,9 +9,10 @@ use lib.ListN.{length, take, drop, getD, replicate, drop-of-length-le}
 use lib.Seq.{drop-cons, drop-drop, take-append-seam}
 use Rattle.laws.proofs.TableLaws.{entry-means}
 use Rattle.laws.specs.Bytes.{Bytes, byte, part, same}
-use Rattle.scene.specs.Types.{Kind, types, kindOf, typeName, numberFrom}
-use Rattle.kinds.proofs.RowLaws.{noType, row-kind, no-row}
-use Rattle.kinds.specs.Names.{names, padded}
+use Rattle.scene.specs.Types.{Kind, noType, types, kindOf, typeName, numberFrom}
+use Rattle.kinds.proofs.RowLaws.{row-kind, no-row}
+use Rattle.kinds.specs.Names.{padded}
+use Rattle.kinds.specs.Rules.{names, rowNumber}
 use Rattle.kinds.specs.declared.Name.{Name}
 
 -- a name's own bytes
@@ -51,7 +52,7 @@ row-at bytes (l ∷ ls) (suc k) d h =
 abbrev rowOf : Kind → Row
 rowOf t = (t .name, padded (t .name))
 
-module _ (t k : ℕ) (r : k ≡ t - 1) where
+module _ (t k : ℕ) (r : k ≡ rowNumber t) where
   row-is : (d : ℕ) → k < 25 → rowIn names (k * 10) (getD lengths k d) ≡ rowOf (kindOf t)
   unfolding rows
   row-is d h = row-at names lengths k d h ∙ entry-means (λ (x : Row). x) rowOf (rows names lengths) types refl k none noType h ∙ ap rowOf (row-kind t k r)
@@ -67,7 +68,7 @@ module _ (t k : ℕ) (r : k ≡ t - 1) where
 -- the own bytes of the table's row t are the name of type t + 1
 pub named : (d t : ℕ) → t < 25 → part names (t * 10) (getD lengths t d) ≡ typeName (t + 1)
 unfolding typeName
-named d t h = let e : t ≡ t + 1 - 1 = omega arith in ap (λ (x : Row). x .0) (row-is (t + 1) t e d h)
+named d t h = ap (λ (x : Row). x .0) (row-is (t + 1) t (sym (ap rowNumber (add-one t))) d h)
 
 -- a search past the last type, at the type that has the name, and past one that has not
 module _ (w : Bytes) (t : ℕ) where
@@ -77,9 +78,7 @@ module _ (w : Bytes) (t : ℕ) where
 
   module _ (h : t < 25) where
     next : drop t types ≡ kindOf (t + 1) ∷ drop (suc t) types
-    next =
-        let e : t ≡ t + 1 - 1 = omega arith in
-        drop-cons types t noType h ∙ ap (λ (x : Kind). x ∷ drop (suc t) types) (row-kind (t + 1) t e)
+    next = drop-cons types t noType h ∙ ap (λ (x : Kind). x ∷ drop (suc t) types) (row-kind (t + 1) t (sym (ap rowNumber (add-one t))))
 
     pub number-hit : same w (typeName (t + 1)) ≡ true → numberFrom (t + 1) w (drop t types) ≡ t + 1
     unfolding numberFrom typeName

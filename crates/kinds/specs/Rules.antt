@@ -1,10 +1,26 @@
--- What the numbers of the code's tables mean.
+-- The code's tables: the rows of names, and what the numbers mean.
 use mathlib.Core.Bool.{Bool, _&&_, cond}
-use Prim.Native.Nat.{ℕ, _-_, _/_, _%_}
+use mathlib.Core.List.{List, [], _∷_, _++_}
+use Prim.Native.Nat.{ℕ, zero, suc, _-_, _/_, _%_}
 use lib.Dec.{eqb, ltb}
 use lib.Ieee.{Float}
+use Rattle.laws.specs.Bytes.{Bytes}
 use Rattle.scene.specs.HouseRules as rules
-use Rattle.scene.specs.Types.{Rule, exactly, orMore, either, corners, any}
+use Rattle.scene.specs.Types.{Rule, exactly, orMore, either, corners, any, Kind, types}
+use Rattle.kinds.specs.Names.{padded}
+
+-- the row of a type's number, from 0; there is no row 25, which stands for no type
+abbrev pub rowNumber : ℕ → ℕ
+rowNumber zero = 25
+rowNumber (suc t) = t
+
+-- the names of some types one behind the other, ten bytes each
+abbrev pub spelled : List Kind → Bytes
+spelled [] = []
+spelled (t ∷ ts) = padded (t .name) .0 ++ spelled ts
+
+abbrev pub names : Bytes
+names = spelled types
 
 -- a rule on a count
 unfoldable pub ruleOf : ℕ → Rule

@@ -1,11 +1,11 @@
 // The 25 types: their groups, names, counts and house rules.
 ghost use mathlib.Core.Path.{_≡_};
-ghost use Prim.Native.Nat.{_-_, _*_, _<_};
+ghost use Prim.Native.Nat.{_*_, _<_};
 ghost use Rattle.laws.specs.Bytes.{part};
 ghost use Rattle.scene.specs.HouseRules.{breachAt, houseRules, isAbove0, isAtLeast0, is0};
 ghost use Rattle.scene.specs.Types.{allows, isMaterial, isSurface, isType, realsAllowed, stringsAllowed, typeName, typeNumber};
-ghost use Rattle.kinds.specs.Names.{names, padded};
-ghost use Rattle.kinds.specs.Rules.{breached, broken, ruleOf};
+ghost use Rattle.kinds.specs.Names.{padded};
+ghost use Rattle.kinds.specs.Rules.{breached, broken, names, rowNumber, ruleOf};
 
 // A name: ten bytes, and how many of them, from the first on, are its own.
 pub struct Name(pub [u8; 10], pub usize);
@@ -220,11 +220,14 @@ pub fn is_material(t: u32) -> bool
     (10 <= t) & (t <= 24)
 }
 
-// The row of a type's number in the tables; number 0, of no type, has row 0 too.
+// The row of a type's number in the tables; number 0 has the one past their last, as it is of no type.
 fn row(t: u32) -> usize
-    ensures { λ r. ⌜ r ≡ t - 1 ⌝ }
+    ensures { λ r. ⌜ r ≡ rowNumber t ⌝ }
 {
-    if t == 0 { 0 } else { (t - 1) as usize }
+    if t == 0 {
+        return 25;
+    }
+    (t - 1) as usize
 }
 
 // The ten bytes of row k of the names.

@@ -5,7 +5,6 @@ use Prim.Native.Nat.{ℕ, zero, suc, _+_, _-_, _≤_, _<_}
 use native.Mathlib.Omega.{arith}
 use lib.ListN.{length}
 use Rattle.buffer.specs.Decimal.{decimal}
-use Rattle.buffer.specs.Put.{behind}
 use Rattle.laws.specs.Bytes.{Bytes, byte, bytes}
 use Rattle.lexer.specs.Word.{wordBytes, wordEnd}
 use Rattle.scene.specs.Told.{wordsFrom}

@@ -1,5 +1,5 @@
 -- Bytes put into the output in one step or in many.
-use mathlib.Core.Bool.{Bool, true, false, _||_}
+use mathlib.Core.Bool.{Bool, true, false, _||_, or-assoc}
 use mathlib.Core.List.{[], _++_, append-assoc, append-nil}
 use mathlib.Core.Path.{_≡_, refl, sym, ap, subst, _∙_}
 use Prim.Native.Nat.{ℕ, _+_, _-_, min}
@@ -11,7 +11,7 @@ use lib.ListN.{length, length-append, take-append-drop}
 use lib.Seq.{take-nil}
 use Rattle.buffer.proofs.PutLaws.{put-put, behind-behind, length-put}
 use Rattle.buffer.specs.Put.{put, behind}
-use Rattle.laws.specs.Bytes.{Bytes, bytes}
+use Rattle.laws.specs.Bytes.{Bytes}
 use Rattle.lines.specs.Puts.{moved, Puts}
 use Rattle.lines.specs.declared.Cursor.{Cursor}
 
@@ -26,10 +26,6 @@ fits-not room x y = go (ltb room x) refl
     go : (b : Bool) → ltb room x ≡ b → (b || ltb (room - x) y) ≡ ltb room (x + y)
     go true e = let h = ltb-true room x e in sym (lt-ltb room (x + y) (omega arith))
     go false e = behind (ltb (room - x) y) refl e
-
-or-assoc : (a b c : Bool) → (a || b || c) ≡ (a || (b || c))
-or-assoc true b c = refl
-or-assoc false b c = refl
 
 moved-moved : (out : Bytes) (c : Cursor) (x y : Bytes) → moved (put out (c .at) x) (moved out c x) y ≡ moved out c (x ++ y)
 moved-moved out c x y =

@@ -1,5 +1,5 @@
 -- Entering a statement's record makes the table that of one statement more.
-use mathlib.Core.Bool.{Bool, false, cond}
+use mathlib.Core.Bool.{false, cond}
 use mathlib.Core.List.{List, [], _∷_, _++_}
 use mathlib.Core.Path.{_≡_, refl, ap, sym, _∙_}
 use Prim.Native.Nat.{ℕ, zero, suc, _+_, _-_, _*_, _/_, _≤_, min}
@@ -10,9 +10,9 @@ use lib.Dec.{leb}
 use lib.ListN.{length, length-append, length-set, length-replicate, replicate, take, drop}
 use lib.Seq.{sets, sets-eq, set-append-left, take-append-seam, drop-append-add}
 use Rattle.laws.specs.Bytes.{Bytes, part}
-use Rattle.linker.proofs.LookupLaws.{search-latest}
+use Rattle.lookup.proofs.LookupLaws.{search-latest}
 use Rattle.linker.specs.Entered.{enteredIn, toldIn, recordFrom}
-use Rattle.linker.specs.Lookup.{latestIn}
+use Rattle.lookup.specs.Lookup.{latestIn}
 use Rattle.statement.specs.declared.Draft.{Draft}
 use Rattle.scene.proofs.FlatLaws.{flat-next, link, flat-snoc, flat-length}
 use Rattle.scene.proofs.GivesLaws.{gives-name}
@@ -22,7 +22,7 @@ use Rattle.scene.proofs.SwapLaws.{latest-le}
 use Rattle.scene.proofs.TellsLaws.{name-at, records-length, statements-length}
 use Rattle.scene.specs.Links.{latest}
 use Rattle.scene.specs.Reading.{newline, Entry, statements}
-use Rattle.scene.specs.Record.{width, flat, recordOf, Record, filled, fields, records}
+use Rattle.scene.specs.Record.{width, flat, recordOf, Record, filled, fields, records, nextField}
 
 drop-zeros : (k n : ℕ) → drop {A = ℕ} k (replicate n 0) ≡ replicate (n - k) 0
 drop-zeros zero n = rw sub-zero
@@ -35,7 +35,7 @@ link-length R (suc k) v = simp length-set
 
 told-link : (text : Bytes) (R : List Record) (z : List ℕ) (m v : ℕ) → m ≤ length R → toldIn (flat text R ++ z) m v ≡ flat text (link R m v) ++ z
 told-link text R z zero v h = refl
-told-link text R z (suc k) v h = set-append-left (flat text R) z (k * width + 9) v (omega (arith, flat-length text R)) ∙ ap {B = List ℕ} (λ (y : List ℕ). y ++ z) (flat-next text R k v h)
+told-link text R z (suc k) v h = set-append-left (flat text R) z (k * width + nextField) v (omega (arith, flat-length text R)) ∙ ap {B = List ℕ} (λ (y : List ℕ). y ++ z) (flat-next text R k v h)
 
 -- a record put behind the others
 put-record : (text : Bytes) (R : List Record) (r : Record) (n m : ℕ) → n ≡ length R → n * width + width ≤ m → sets (filled 0 m (flat text R)) (n * width) (fields text r) ≡ filled 0 m (flat text (R ++ r ∷ []))

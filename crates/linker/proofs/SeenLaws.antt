@@ -85,9 +85,7 @@ known es w l (e ∷ d) q h = go (hits w (e .statement)) (λ x. known es x (l ++ 
 module _ (text : Bytes) (table : List ℕ) (es : List Entry) (t : table ≡ filled 0 (length table) (flat text (records es))) where
   draft-is : (k : ℕ) → draftIn table (suc k) ≡ draftOf (getD (records es) k nothing)
   unfolding nth
-  draft-is k =
-      let e : suc k - 1 ≡ k = omega arith in
-      ap (λ (z : List ℕ). draftOf (recordIn z (suc k))) t ∙ ap draftOf (record-in text (records es) (length table) (suc k)) ∙ ap (λ (n : ℕ). draftOf (getD (records es) n nothing)) e
+  draft-is k = ap (λ (z : List ℕ). draftOf (recordIn z (suc k))) t ∙ ap draftOf (record-in text (records es) (length table) (suc k))
 
   pub found-as : Linked (statements es) → (w : Bytes) (x : ℕ) → x ≡ latest w (statements es) → FoundAs es w (draftIn table x) x
   found-as h w x e = go x (subst (Known es (definition w (statements es)) (resolve w (statements es))) (sym e) (known es w [] es refl h))

@@ -1,6 +1,6 @@
 -- What the functions over the lent tables answer, case by case.
 use mathlib.Core.Bool.{Bool, true, false}
-use mathlib.Core.List.{List, [], _∷_, _++_}
+use mathlib.Core.List.{List, _++_}
 use mathlib.Core.Path.{_≡_, refl, ap, sym, _∙_}
 use Prim.Native.Nat.{ℕ, zero, suc, _+_, _-_, _*_, _/_, _≤_, _<_, min}
 use native.Mathlib.Numerals.{add-one}
@@ -12,11 +12,11 @@ use lib.Seq.{paste, paste-suc, sets, sets-eq, take-length}
 use Rattle.laws.proofs.BoolLaws.{cond-elim}
 use Rattle.laws.specs.Bytes.{Bytes, part}
 use Rattle.linker.specs.Entered.{enteredIn, recordFrom, rowOf, toldIn}
-use Rattle.linker.specs.Lookup.{hasName, latestIn}
+use Rattle.lookup.specs.Lookup.{hasName, latestIn}
 use Rattle.linker.specs.Seen.{back, clipped, draftIn, isLookedUp, lookedFor}
 use Rattle.statement.specs.declared.Phase.{Phase}
 use Rattle.scene.specs.HouseRules.{zeroReal}
-use Rattle.scene.specs.Record.{fieldIn, fields, recordIn, width}
+use Rattle.scene.specs.Record.{fieldIn, fields, recordIn, width, nextField}
 use Rattle.statement.specs.declared.Draft.{Draft}
 
 -- ---- the next of a name
@@ -24,9 +24,9 @@ use Rattle.statement.specs.declared.Draft.{Draft}
 pub told-none : (t : List ℕ) (k v : ℕ) → k ≡ 0 → toldIn t k v ≡ t
 told-none t k v e = ap (λ (k : ℕ). toldIn t k v) e
 
-pub told-some : (t : List ℕ) (k v : ℕ) → (k ≡ 0 → ⊥) → toldIn t k v ≡ set t ((k - 1) * width + 9) v
+pub told-some : (t : List ℕ) (k v : ℕ) → (k ≡ 0 → ⊥) → toldIn t k v ≡ set t ((k - 1) * width + nextField) v
 told-some t zero v h = absurd (h refl)
-told-some t (suc k) v h = let e : suc k - 1 ≡ k = omega arith in ap (λ (n : ℕ). set t (n * width + 9) v) (sym e)
+told-some t (suc k) v h = let e : suc k - 1 ≡ k = omega arith in ap (λ (n : ℕ). set t (n * width + nextField) v) (sym e)
 
 -- ---- a lookup's number
 
@@ -55,11 +55,6 @@ draft-some t zero h = absurd (h refl)
 draft-some t (suc k) h = refl
 
 -- ---- a real
-
-pub real-there : (D : List Float) (o : Float) (n : ℕ) → n < length D → getD D n o ≡ getD D n zeroReal
-real-there [] o n h = absurd (omega arith)
-real-there (a ∷ D) o zero h = refl
-real-there (a ∷ D) o (suc n) h = real-there D o n (omega arith)
 
 pub back-some : (D : List Float) (u j : ℕ) → j ≤ u → getD D (u - j) zeroReal ≡ back D u j
 unfolding back

@@ -6,10 +6,10 @@ use lib.Dec.{leb}
 use lib.ListN.{length, set}
 use lib.Seq.{sets}
 use Rattle.laws.specs.Bytes.{Bytes, part}
-use Rattle.linker.specs.Lookup.{latestIn}
+use Rattle.lookup.specs.Lookup.{latestIn}
 use Rattle.linker.specs.Seen.{clipped}
 use Rattle.statement.specs.declared.Draft.{Draft}
-use Rattle.scene.specs.Record.{fields, width, Record}
+use Rattle.scene.specs.Record.{fields, width, Record, nextField}
 
 -- a draft as a record, with no next of its name yet
 abbrev pub recordFrom : Draft → Record
@@ -23,7 +23,7 @@ rowOf d =
 -- "number of the next primitive of the same name": the record of a number is told it, and 0 is no record
 abbrev pub toldIn : List ℕ → ℕ → ℕ → List ℕ
 toldIn table zero number = table
-toldIn table (suc k) number = set table (k * width + 9) number
+toldIn table (suc k) number = set table (k * width + nextField) number
 
 -- the latest of the first n records that has the draft's name is told of record n + 1, which the draft becomes; nothing is
 -- entered where there is no room

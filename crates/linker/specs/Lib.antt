@@ -1,4 +1,3 @@
 -- Inner models of the proofs.
-pub mod Lookup
 pub mod Seen
 pub mod Entered

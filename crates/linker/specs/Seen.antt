@@ -7,7 +7,7 @@ use lib.Ieee.{Float}
 use lib.ListN.{length, getD}
 use Rattle.laws.specs.Bytes.{Bytes}
 use Rattle.statement.specs.States.{opened}
-use Rattle.linker.specs.Lookup.{latestIn}
+use Rattle.lookup.specs.Lookup.{latestIn}
 use Rattle.statement.specs.declared.Draft.{Draft}
 use Rattle.statement.specs.declared.Phase.{Phase}
 use Rattle.statement.specs.declared.Seen.{Seen}

@@ -4,7 +4,7 @@ ghost use Prim.Native.Nat.{_+_, _*_, _/_, _≤_, min};
 ghost use lib.ListN.{getD, length};
 ghost use lib.Seq.{sets};
 ghost use Rattle.linker.specs.Entered.{enteredIn, rowOf, toldIn};
-ghost use Rattle.linker.specs.Lookup.{latestIn};
+ghost use Rattle.lookup.specs.Lookup.{latestIn};
 ghost use Rattle.linker.specs.Seen.{back, clipped, draftIn, isLookedUp, lookedFor, seenIn};
 ghost use Rattle.scene.specs.HouseRules.{zeroReal};
 ghost use Rattle.scene.specs.Record.{width};
@@ -14,8 +14,6 @@ use statement::Seen;
 use statement::State;
 use statement::linked;
 use table::KIND;
-use table::NAME;
-use table::NAME_LENGTH;
 use table::NEXT;
 use table::REAL;
 use table::REALS;
@@ -27,42 +25,6 @@ fn wide(n: u32) -> usize
     ensures { λ r. ⌜ r ≡ n ⌝ }
 {
     n as usize
-}
-
-// The number of the latest of the first `count` records that has the name `word`; 0 for none. Bytes are compared from the last
-// one on, where names of a kind differ first.
-fn find(text: &[u8], records: &[u32], count: usize, word: &[u8]) -> usize
-    ensures { λ r. ⌜ r ≡ latestIn (now (text .entry)) (now (records .entry)) (now (word .entry)) (min count (length (now (records .entry)) / width)) ⌝ }
-{
-    let len = word.len();
-    if text.len() < len {
-        return 0;
-    }
-    let last = text.len() - len;
-    let mut n = lexer::least(count, records.len() / WIDTH);
-    let found = 'search: loop {
-        if n == 0 {
-            break 'search 0;
-        }
-        n -= 1;
-        let size = wide(records[n * WIDTH + NAME_LENGTH]);
-        if size != len {
-            continue 'search;
-        }
-        let name = wide(records[n * WIDTH + NAME]);
-        if last < name {
-            continue 'search;
-        }
-        let mut i = len;
-        while 0 < i {
-            i -= 1;
-            if text[name + i] != word[i] {
-                continue 'search;
-            }
-        }
-        break 'search n + 1;
-    };
-    found
 }
 
 // A number that a record can hold: those past the largest count as the largest.
@@ -90,7 +52,7 @@ fn look_up(text: &[u8], records: &[u32], count: usize, phase: Phase, word: &[u8]
     ensures { λ r. ⌜ r ≡ lookedFor phase (latestIn (now (text .entry)) (now (records .entry)) (now (word .entry)) (min count (length (now (records .entry)) / width))) ⌝ }
 {
     if is_looked_up(phase) {
-        return find(text, records, count, word);
+        return lookup::find(text, records, count, word);
     }
     0
 }
@@ -111,19 +73,12 @@ fn source_of(records: &[u32], number: usize) -> Draft
     d
 }
 
-// Real number i of a table, from 0; 0 past its end.
-fn real_at(reals: &[f64], i: usize) -> f64
-    ensures { λ r. ⌜ r ≡ getD (now (reals .entry)) i zeroReal ⌝ }
-{
-    if i < reals.len() { reals[i] } else { 0.0 }
-}
-
 // The real that stands `j` before the next one.
 fn back(reals: &[f64], used: usize, j: usize) -> f64
     ensures { λ r. ⌜ r ≡ back (now (reals .entry)) used j ⌝ }
 {
     if j <= used {
-        return real_at(reals, used - j);
+        return table::real_at(reals, used - j);
     }
     0.0
 }
@@ -196,7 +151,7 @@ pub fn enter(text: &[u8], records: &mut [u32], count: usize, d: Draft)
         return;
     }
     let name = lexer::part(text, wide(d.name), wide(d.size));
-    let earlier = find(text, records, count, name);
+    let earlier = lookup::find(text, records, count, name);
     let number = narrow(count + 1);
     tell_next(records, earlier, number);
     put_row(records, count, d);

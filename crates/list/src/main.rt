@@ -43,7 +43,7 @@ fn list(text: &[u8]) -> bool {
 
 // Answers whether to go on with the next text: not after a failed write.
 fn list_text(number: usize) -> bool {
-    let mut text = [0u8; input::MOST_BYTES];
+    let mut text = [0u8; table::MOST_BYTES];
     match input::load(number, &mut text) {
         Loaded::Text(n) => input::print_heading(number) && list(lexer::part(&text, 0, n)),
         Loaded::TooLong => input::print_heading(number) && print_head(1, 0, 0, 0),

@@ -25,7 +25,7 @@ unfolding rowLine recordIn nameIn fieldIn lineOf typeName kindOf digits decimal
 first = refl
 
 -- a record that the table does not have
-pub missing : rowLine [] table 1024 ≡ bytes "no=1024 mod=0 alias=0 type=source name= next=0\n"
+pub missing : rowLine [] table 1024 ≡ bytes "no=1024 mod=0 alias=0 type= name= next=0\n"
 unfolding rowLine recordIn nameIn fieldIn lineOf typeName kindOf digits decimal
 missing = refl
 

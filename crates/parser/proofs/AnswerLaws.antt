@@ -1,4 +1,4 @@
--- One law for each answer of a step, in the code's terms.
+-- What a count, a string or a real comes to: one law for each answer of the step.
 use mathlib.Core.Bool.{Bool, true, false}
 use mathlib.Core.Logic.{_⊎_, inl, inr}
 use mathlib.Core.Option.{none, some}

@@ -20,7 +20,7 @@ use Rattle.lexer.specs.declared.Word.{Word}
 use Rattle.reader.proofs.MoveLaws.{at-command, over-comment, over-blanks, ends-here}
 use Rattle.reader.proofs.PhaseLaws.{part-busy}
 use Rattle.reader.proofs.ReadyLaws.{stores-last, used-list, count-fits, entered, steps-as, more-real, stores, count-is}
-use Rattle.reader.proofs.WordLaws.{reached, goes-out, goes-on, word-fits, refuses, faulty}
+use Rattle.reader.proofs.WordLaws.{reached, goes-out, goes-on, refuses, faulty}
 use Rattle.reader.specs.Answer.{Reads, readInto, answered}
 use Rattle.linker.specs.Entered.{enteredIn}
 use Rattle.reader.specs.Goes.{On, Stepped}

@@ -1,5 +1,4 @@
 -- The links in the lent table after a call: those of the records, whose properties are proved.
-use mathlib.Core.Bool.{true}
 use mathlib.Core.List.{List}
 use mathlib.Core.Logic.{_⊎_}
 use mathlib.Core.Option.{some}
@@ -16,7 +15,7 @@ use Rattle.reader.specs.declared.Answer.{Answer}
 use Rattle.scene.proofs.PropertyLaws.{modifier-latest, modifier-void, next-least, target-latest, target-none}
 use Rattle.scene.specs.Properties.{LatestBelow, Named, NextAbove, numbered}
 use Rattle.scene.specs.Reading.{Entry, accepted, statements}
-use Rattle.scene.specs.Record.{Record, recordIn, settingsFor}
+use Rattle.scene.specs.Record.{Record, settingsFor}
 use Rattle.scene.specs.Statement.{Statement}
 
 module _ (text : Bytes) (lent : List ℕ) (doubles : List Float) (a : Answer) (table : List ℕ) (reals : List Float) (R : Reads text lent doubles a table reals) (es : List Entry) (e : readInto text lent doubles ≡ accepted es) (k : ℕ) (s : Statement) (there : numbered (statements es) k ≡ some s) where

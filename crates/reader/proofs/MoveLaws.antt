@@ -23,7 +23,6 @@ use Rattle.scene.proofs.EdgeLaws.{run-append, run-stopped}
 use Rattle.scene.proofs.TurnLaws.{run-blanks, run-comment}
 use Rattle.scene.specs.Phase.{Part, Phase, idle, busy}
 use Rattle.scene.specs.Reading.{run, finish, command, statements, first, initial, refused, endIn, gap, goingAt, comment, newline, keep, begins, advance, Places}
-use Rattle.scene.specs.declared.Settings.{Settings}
 use Rattle.scene.specs.Statement.{Statement}
 use Rattle.statement.specs.declared.Opening.the-variants as opening
 use Rattle.scene.specs.Reading as reading

@@ -11,7 +11,7 @@ use lib.Seq.{set-at, append-snoc}
 use Rattle.laws.specs.Bytes.{part, Bytes}
 use Rattle.lexer.specs.Word.{wordFault}
 use Rattle.linker.proofs.EnteredLaws.{enters}
-use Rattle.linker.proofs.LookupLaws.{search-latest}
+use Rattle.lookup.proofs.LookupLaws.{search-latest}
 use Rattle.reader.proofs.MoveLaws.{moved-image}
 use Rattle.linker.proofs.SeenLaws.{FoundAs, breach-is, found-as}
 use Rattle.linker.proofs.TableLaws.{latest-in-le, looked-le}
@@ -23,7 +23,7 @@ use Rattle.reader.specs.Image.{partReals, openReals, image, phaseOf}
 use Rattle.statement.specs.States.{movedTo}
 use Rattle.statement.specs.declared.Seen.{Seen}
 use Rattle.reader.specs.Invariant.{AtWord, Inv}
-use Rattle.linker.specs.Lookup.{latestIn}
+use Rattle.lookup.specs.Lookup.{latestIn}
 use Rattle.linker.specs.Seen.{back, clipped, isLookedUp, lookedFor, seenIn, draftIn, seenBy}
 use Rattle.parser.specs.Steps.{stepOf}
 use Rattle.scene.specs.declared.Settings.{Settings}
@@ -38,8 +38,7 @@ use Rattle.scene.specs.HouseRules.{zeroReal}
 use Rattle.scene.specs.Links.{realsIn, realsUsed, latest}
 use Rattle.scene.specs.Phase.{atType, atRealCount, Phase, atStringCount, atString, atName, idle, atTarget, atReal, atIntegerCount, atAliasName, busy}
 use Rattle.scene.specs.Reading.{run, gap, Entry, initial, Going, statements, going, newline}
-use Rattle.scene.specs.Record.{realTable, width, filled, Record, records, recordOf, flat}
-use Rattle.scene.specs.declared.Settings.{Settings}
+use Rattle.scene.specs.Record.{realTable, width, filled, records, flat}
 use Rattle.scene.specs.Statement.{numbers, Statement}
 
 -- ---- from the definition's state

@@ -32,7 +32,6 @@ use Rattle.scene.specs.Links.{typeIn, modifierLink, stringsIn, latest, realsUse
 use Rattle.scene.specs.Phase.{integerCount, Outcome, fault, idle, busy, Phase, atIntegerCount, atTarget, into, done, stringCount, typed, atReal, turn, unlessFault, realCount, atType, taken, atStringCount, atAliasName, outcome, atName, strings, reals, atRealCount, real, Turn, onto, Part, atString}
 use Rattle.scene.specs.Reading.{settle, modifierTest, Places, Entry, statements, targetTest, note, roomTest, test, atEnd}
 use Rattle.scene.specs.Record.{recordOf, stringPlace, firstReal, unlessNone}
-use Rattle.scene.specs.declared.Settings.{Settings}
 use Rattle.scene.specs.Types.{isSurface, stringsAllowed, realsAllowed, typeNumber}
 use Rattle.scene.specs.Statement.{alias, Statement, Literal, void, numbers, Body, literal, primitive}
 use Rattle.statement.specs.declared.Phase.the-variants as is

@@ -29,7 +29,6 @@ use Rattle.scene.specs.Links.{realsIn, realsUsed, realsAdded}
 use Rattle.scene.specs.Phase.{unlessFault, busy, idle, taken, Phase}
 use Rattle.scene.specs.Reading.{run, refused, first, settle, stopped, goingAt, statements, gap, begins, finish, initial, Entry, Places, newline, note, test, atEnd}
 use Rattle.scene.specs.Record.{settingsFor, flat, realTable, records, filled}
-use Rattle.scene.specs.declared.Settings.{Settings}
 use Rattle.scene.specs.Reading as reading
 use Rattle.scene.specs.Record as table-of
 

@@ -15,7 +15,6 @@ use Rattle.scene.specs.Links.{realsUsed, realsIn}
 use Rattle.scene.specs.Phase.{word, Phase, idle}
 use Rattle.scene.specs.Reading.{statements, settle, Entry, Places, test, stopped, gap, goingAt, atEnd}
 use Rattle.scene.specs.Record.{recordOf}
-use Rattle.scene.specs.declared.Settings.{Settings}
 use Rattle.statement.specs.declared.Step.the-variants as step
 use Rattle.scene.specs.Reading as reading
 

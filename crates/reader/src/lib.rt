@@ -16,7 +16,7 @@ pub enum Answer {
     Refused(u32, usize),
 }
 
-// What one word, comment or gap comes to.
+// What one word, comment or command, or the text's end, comes to.
 enum Turn {
     Going(State),
     Ended(Answer),
@@ -146,7 +146,7 @@ pub fn read(text: &[u8], records: &mut [u32], reals: &mut [f64]) -> Answer
     ensures { λ r. ⌜ Reads (now (text .entry)) (now (records .entry)) (now (reals .entry)) r (now (records .exit)) (now (reals .exit)) ⌝ }
 {
     table::clear(records, reals);
-    if 65536 < text.len() {
+    if table::MOST_BYTES < text.len() {
         return Answer::Refused(1, 0);
     }
     let settings = table::settings_for(records.len(), reals.len());

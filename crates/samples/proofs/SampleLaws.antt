@@ -20,8 +20,8 @@ use Rattle.scene.specs.Exchange.{Exchange, Exchanged, exchangeShift, statements
 use Rattle.scene.specs.HouseRules.{breach, breachAt, realAt, isAbove0, isAtLeast0, is0}
 use Rattle.scene.specs.Links.{gives, hits, found, resolve, firstLater, realsUsed}
 use Rattle.scene.specs.Reading.{Entry, read, run, statements}
-use Rattle.scene.specs.Record.{entries, records, recordsFrom, recordOf, stringPlace, nth, realTable, reals}
-use Rattle.samples.specs.Samples.{roomy, lamp, wall, panel, oak, grey, desk}
+use Rattle.scene.specs.Record.{entries, records, recordsFrom, recordOf, stringPlace, nth, realTable, reals, fullRoom}
+use Rattle.samples.specs.Samples.{lamp, wall, panel, oak, grey, desk}
 use Rattle.scene.specs.Told.{tells, wordsFrom, renumbered}
 use Rattle.scene.specs.Types.{typeNumber, numberFrom, kindOf, stringsAllowed, realsAllowed}
 use Rattle.laws.specs.Runs as runs
@@ -39,9 +39,9 @@ tables = tt
 -- ---- an exchange
 
 es : List Entry
-es = entries (read roomy (lamp ++ wall ++ panel))
+es = entries (read fullRoom (lamp ++ wall ++ panel))
 
-lamp-first : Exchange roomy [] lamp wall panel es
+lamp-first : Exchange fullRoom [] lamp wall panel es
 unfolding es readings inBlock given referred stands share
 lamp-first = record {
   reads = refl;
@@ -50,24 +50,24 @@ lamp-first = record {
   independent = record { first = refl; second = refl };
 }
 
-wall-first : Exchanged roomy [] lamp wall panel es
-wall-first = exchange-law roomy [] lamp wall panel es lamp-first
+wall-first : Exchanged fullRoom [] lamp wall panel es
+wall-first = exchange-law fullRoom [] lamp wall panel es lamp-first
 
 -- what is told of the panel: its finish was 2 and is 1, and nothing else changed
-panel-told : tells (wall ++ lamp ++ panel) (realTable (entries (read roomy (wall ++ lamp ++ panel)))) (nth (records (entries (read roomy (wall ++ lamp ++ panel)))) 3) ≡ renumbered (exchangeShift es [] lamp wall) (tells (lamp ++ wall ++ panel) (realTable es) (nth (records es) 3))
+panel-told : tells (wall ++ lamp ++ panel) (realTable (entries (read fullRoom (wall ++ lamp ++ panel)))) (nth (records (entries (read fullRoom (wall ++ lamp ++ panel)))) 3) ≡ renumbered (exchangeShift es [] lamp wall) (tells (lamp ++ wall ++ panel) (realTable es) (nth (records es) 3))
 unfolding es tables inBlock shift
 panel-told = refl
 
 -- ---- truck nine: the two finishes share a name, and the desk's finish changes from the later one to the other
 
-twice : share (given (statementsIn (entries (read roomy (oak ++ grey ++ desk))) [] oak)) (given (statementsIn (entries (read roomy (oak ++ grey ++ desk))) oak grey) ++ referred (statementsIn (entries (read roomy (oak ++ grey ++ desk))) oak grey)) ≡ true
+twice : share (given (statementsIn (entries (read fullRoom (oak ++ grey ++ desk))) [] oak)) (given (statementsIn (entries (read fullRoom (oak ++ grey ++ desk))) oak grey) ++ referred (statementsIn (entries (read fullRoom (oak ++ grey ++ desk))) oak grey)) ≡ true
 unfolding readings inBlock given referred stands share
 twice = refl
 
 -- the desk's modifier, and the types of the two finishes
 desk-facts : Bytes → List ℕ
 desk-facts text =
-    let rs = records (entries (read roomy text)) in
+    let rs = records (entries (read fullRoom text)) in
     nth rs 3 .modifier ∷ nth rs 1 .type ∷ nth rs 2 .type ∷ []
 
 oak-first : desk-facts (oak ++ grey ++ desk) ≡ 2 ∷ 15 ∷ 16 ∷ []

@@ -1,11 +1,5 @@
 -- Two exchanges at work, one that changes nothing and one that the condition keeps out.
 use Rattle.laws.specs.Bytes.{Bytes, bytes}
-use Rattle.scene.specs.Record.{settingsFor}
-use Rattle.scene.specs.declared.Settings.{Settings}
-
--- all the room there is
-abbrev pub roomy : Settings
-roomy = settingsFor 10240 4096
 
 -- ---- an exchange that changes nothing but numbering
 

@@ -1,10 +1,10 @@
 // Two saves of a scene, read from files, compared, and reported. A save that is refused or cannot be read gives one line, the
-// left one first. Each function answers whether all of it was written.
+// left one first. Each function that prints answers whether all of it was written.
 use input::Loaded;
-use input::MOST_BYTES;
 use pair::Both;
 use pair::Side;
 use reader::Answer;
+use table::MOST_BYTES;
 use table::MOST_NUMBERS;
 use table::MOST_REALS;
 use table::first_records;
@@ -35,7 +35,7 @@ fn compare<'a>(left: &'a [u8], right: &'a [u8]) -> bool {
     }
 }
 
-// What a left text comes to without a right one: its own refusal, or nothing.
+// The left text read alone, as its refusal comes first where the right one is too long or cannot be read.
 fn left_refusal(left: &[u8]) -> Answer {
     let mut records = [0u32; MOST_NUMBERS];
     let mut reals = [0.0f64; MOST_REALS];

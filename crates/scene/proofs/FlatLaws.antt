@@ -10,7 +10,7 @@ use lib.Seq.{getD-append-add}
 use Rattle.laws.proofs.NatLaws.{le-or-lt}
 use Rattle.laws.proofs.TableLaws.{padded}
 use Rattle.laws.specs.Bytes.{Bytes}
-use Rattle.scene.specs.Record.{recordIn, fieldIn, nth, filled, Record, fields, nothing, width, flat}
+use Rattle.scene.specs.Record.{recordIn, fieldIn, nth, filled, Record, fields, nothing, width, flat, nextField}
 
 -- a record with its next set
 abbrev pub withNext : Record → ℕ → Record
@@ -33,7 +33,7 @@ flat-at text [] k j h l = absurd (omega arith)
 flat-at text (r ∷ rs) zero j h l = let e : 0 * 10 + j ≡ j = omega arith in ap (λ n. getD (fields text r ++ flat text rs) n 0) e ∙ List·getD-append (fields text r) (flat text rs) 0 j l
 flat-at text (r ∷ rs) (suc k) j h l = let e : suc k * 10 + j ≡ 10 + (k * 10 + j) = omega arith in ap (λ n. getD (fields text r ++ flat text rs) n 0) e ∙ getD-append-add (fields text r) (flat text rs) (k * 10 + j) 0 ∙ flat-at text rs k j (omega arith) l
 
-pub flat-next : (text : Bytes) (rs : List Record) (k v : ℕ) → k < length rs → set (flat text rs) (k * width + 9) v ≡ flat text (link rs (suc k) v)
+pub flat-next : (text : Bytes) (rs : List Record) (k v : ℕ) → k < length rs → set (flat text rs) (k * width + nextField) v ≡ flat text (link rs (suc k) v)
 unfolding flat
 flat-next text [] k v h = absurd (omega arith)
 flat-next text (r ∷ rs) zero v h = refl
@@ -61,7 +61,8 @@ flat-any text rs k j l z = go (le-or-lt (length rs) k)
 -- the table as it is read is the records
 pub record-in : (text : Bytes) (rs : List Record) (m n : ℕ) → recordIn (filled 0 m (flat text rs)) n ≡ nth rs n
 unfolding recordIn fieldIn nth
-record-in text rs m n = λ i. record { type = cell 0 (lit< tt) refl i; modifier = cell 1 (lit< tt) refl i; target = cell 2 (lit< tt) refl i; name = cell 3 (lit< tt) refl i; nameLength = cell 4 (lit< tt) refl i; string = cell 5 (lit< tt) refl i; strings = cell 6 (lit< tt) refl i; real = cell 7 (lit< tt) refl i; reals = cell 8 (lit< tt) refl i; next = cell 9 (lit< tt) refl i }
+record-in text rs m zero = refl
+record-in text rs m (suc n) = λ i. record { type = cell 0 (lit< tt) refl i; modifier = cell 1 (lit< tt) refl i; target = cell 2 (lit< tt) refl i; name = cell 3 (lit< tt) refl i; nameLength = cell 4 (lit< tt) refl i; string = cell 5 (lit< tt) refl i; strings = cell 6 (lit< tt) refl i; real = cell 7 (lit< tt) refl i; reals = cell 8 (lit< tt) refl i; next = cell 9 (lit< tt) refl i }
   where
-    cell : (j : ℕ) → j < width → getD (fields text nothing) j 0 ≡ 0 → getD (filled 0 m (flat text rs)) ((n - 1) * width + j) 0 ≡ getD (fields text (getD rs (n - 1) nothing)) j 0
-    cell j l z = padded 0 (flat text rs) (m - length (flat text rs)) ((n - 1) * width + j) ∙ flat-any text rs (n - 1) j l z
+    cell : (j : ℕ) → j < width → getD (fields text nothing) j 0 ≡ 0 → getD (filled 0 m (flat text rs)) (n * width + j) 0 ≡ getD (fields text (getD rs n nothing)) j 0
+    cell j l z = padded 0 (flat text rs) (m - length (flat text rs)) (n * width + j) ∙ flat-any text rs n j l z

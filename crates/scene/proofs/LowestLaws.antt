@@ -3,7 +3,7 @@
 use mathlib.Core.Bool.{Bool, true, false, cond}
 use mathlib.Core.List.{List, []}
 use mathlib.Core.Option.{Option, none, some}
-use mathlib.Core.Path.{_≡_, refl, sym, ap, _∙_}
+use mathlib.Core.Path.{_≡_}
 use Prim.Native.Nat.{ℕ, zero, suc, _+_, _≤_}
 use native.Mathlib.Omega.{arith}
 use lib.Dec.{leb, ltb}
@@ -15,8 +15,8 @@ use Rattle.lexer.specs.Class.{isGood}
 use Rattle.lexer.specs.Word.{wordFault}
 use Rattle.numeral.specs.Count.{countOf}
 use Rattle.scene.specs.Links.{definition, realsUsed}
-use Rattle.scene.specs.Phase.{Outcome, Part, Phase, atAliasName, atIntegerCount, atName, atReal, atRealCount, atString, atStringCount, atTarget, atType, busy, fault, idle, outcome, realCount, reals, refuse, taken, unlessFault, word}
-use Rattle.scene.specs.Reading.{modifierTest, partTest, roomTest, surfaceTest, targetTest, test}
+use Rattle.scene.specs.Phase.{Phase, atAliasName, atIntegerCount, atName, atReal, atRealCount, atString, atStringCount, atTarget, atType, busy, fault, idle, outcome, realCount, reals, refuse, taken, unlessFault, word}
+use Rattle.scene.specs.Reading.{modifierTest, roomTest, surfaceTest, targetTest, test}
 use Rattle.scene.specs.Statement.{Body, Statement, alias, primitive, void}
 use Rattle.scene.specs.Types.{isSurface, realsAllowed}
 use Rattle.scene.specs.declared.Settings.{Settings}

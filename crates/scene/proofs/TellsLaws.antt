@@ -214,7 +214,7 @@ at (e ∷ es) k h = go (le-or-lt (length es) k) (at es k)
 
 pub nth-at : (es l : List Entry) (e : Entry) (x : List Entry) (n : ℕ) → es ≡ l ++ e ∷ x → n ≡ suc (length x) → nth (records es) n ≡ recordOf l e x
 unfolding nth records
-nth-at es l e x n q m = (let k : n - 1 ≡ length x = omega arith in λ i. getD (recordsFrom [] (q i)) (k i) nothing) ∙ records-at [] l e x
+nth-at es l e x n q m = ap (nth (records es)) m ∙ (λ i. getD (recordsFrom [] (q i)) (length x) nothing) ∙ records-at [] l e x
 
 pub split-statements : (es l : List Entry) (e : Entry) (x : List Entry) → es ≡ l ++ e ∷ x → statements es ≡ statements l ++ e .statement ∷ statements x
 unfolding statements

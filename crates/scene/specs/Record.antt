@@ -1,8 +1,8 @@
 -- The linked table: a record of ten numbers for each statement, the reals, and both as they stand in the lent tables.
 use mathlib.Core.Bool.{cond}
 use mathlib.Core.List.{List, [], _∷_, _++_}
-use Prim.Native.Nat.{ℕ, suc, _+_, _-_, _*_, _/_, min}
-use lib.Dec.{eqb}
+use Prim.Native.Nat.{ℕ, zero, suc, _+_, _-_, _*_, _/_, min}
+use lib.Dec.{eqb, ltb}
 use lib.Ieee.{Float}
 use lib.ListN.{length, getD, replicate}
 use Rattle.laws.specs.Bytes.{Bytes, part}
@@ -32,9 +32,12 @@ abbrev pub fields : Bytes → Record → List ℕ
 fields text r =
     r .type ∷ r .modifier ∷ r .target ∷ r .name ∷ r .nameLength ∷ r .string ∷ r .strings ∷ r .real ∷ r .reals ∷ r .next ∷ []
 
--- how many numbers a record has
+-- how many numbers a record has, and which of them, from 0, is the next of its name
 abbrev pub width : ℕ
 width = 10
+
+abbrev pub nextField : ℕ
+nextField = 9
 
 -- ---- a statement's record
 
@@ -90,7 +93,8 @@ nothing = record { type = 0; modifier = 0; target = 0; name = 0; nameLength = 0;
 
 -- record n, from 1
 unfoldable pub nth : List Record → ℕ → Record
-nth rs n = getD rs (n - 1) nothing
+nth rs zero = nothing
+nth rs (suc n) = getD rs n nothing
 
 -- "Reals are doubles in their own table; aliases add none there": in the text's order
 unfoldable pub reals : List Statement → List Float
@@ -100,9 +104,11 @@ reals (s ∷ d) = reals d ++ realsIn (s .body)
 abbrev pub realTable : List Entry → List Float
 realTable es = reals (statements es)
 
--- number k, from 0, of record n, from 1, of a table of numbers; 0 where the table has none
+-- number k, from 0, of record n, from 1, of a table of numbers; 0 where there is none: no record 0, and no number past the record's
+-- last or the table's end
 unfoldable pub fieldIn : List ℕ → (n k : ℕ) → ℕ
-fieldIn table n k = getD table ((n - 1) * width + k) 0
+fieldIn table zero k = 0
+fieldIn table (suc n) k = cond (ltb k width) (getD table (n * width + k) 0) 0
 
 -- record n of a table of numbers
 unfoldable pub recordIn : List ℕ → ℕ → Record
@@ -132,13 +138,17 @@ nameIn text table n = part text (recordIn table n .name) (recordIn table n .name
 abbrev pub settingsFor : (lentRecords lentReals : ℕ) → Settings
 settingsFor n m = record { records = min 1024 (n / width); reals = min 4096 m }
 
+-- all the room that a reading can use
+abbrev pub fullRoom : Settings
+fullRoom = settingsFor (1024 * width) 4096
+
 unfoldable pub flat : Bytes → List Record → List ℕ
 flat text [] = []
 flat text (r ∷ rs) = fields text r ++ flat text rs
 
 -- the used entries, then "all entries beyond those used are 0"
 abbrev pub filled : {A : Type 0} → A → ℕ → List A → List A
-filled zero n used = used ++ replicate (n - length used) zero
+filled z n used = used ++ replicate (n - length used) z
 
 -- "both tables are all zero" when a scene is refused
 abbrev pub entries : Reading → List Entry

@@ -1,7 +1,7 @@
 -- The 25 types: their numbers, names, and how many strings and reals each has.
 use mathlib.Core.Bool.{Bool, true, _&&_, _||_, cond}
 use mathlib.Core.List.{List, [], _∷_}
-use Prim.Native.Nat.{ℕ, suc, _-_, _%_}
+use Prim.Native.Nat.{ℕ, zero, suc, _%_}
 use Prim.Native.String.{String}
 use lib.Dec.{leb, eqb}
 use lib.ListN.{getD}
@@ -69,9 +69,13 @@ numberFrom n w (t ∷ ts) = let later = numberFrom (suc n) w ts in cond (same w 
 unfoldable pub typeNumber : Bytes → ℕ
 typeNumber w = numberFrom 1 w types
 
--- the row of a type's number
+-- the row of a type's number; a number of no type has no name
+abbrev pub noType : Kind
+noType = record { name = []; strings = any; reals = any }
+
 unfoldable pub kindOf : ℕ → Kind
-kindOf t = getD types (t - 1) (record { name = []; strings = any; reals = any })
+kindOf zero = noType
+kindOf (suc t) = getD types t noType
 
 -- the name of a type's number
 unfoldable pub typeName : ℕ → Bytes

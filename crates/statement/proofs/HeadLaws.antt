@@ -1,4 +1,4 @@
--- One law for each answer of a step, in the code's terms.
+-- What a word that begins a statement comes to: one law for each answer of `modifier`, `kind`, `name` and `target`.
 use mathlib.Core.Bool.{Bool, true, false}
 use mathlib.Core.Path.{_≡_, refl}
 use Prim.Native.Nat.{ℕ, _≤_, _<_}

@@ -1,17 +1,33 @@
 -- Laws of the questions to a table: one for each answer.
 use mathlib.Core.List.{List}
-use mathlib.Core.Path.{_≡_, refl, sym}
-use Prim.Native.Nat.{ℕ, _+_, _*_, _-_, _≤_, _<_}
-use borrow.Author.Tests.{le-leb, lt-leb}
-use lib.ListN.{length, List·getD-eq-default}
-use Rattle.scene.specs.Record.{fieldIn, recordIn}
+use mathlib.Core.Path.{_≡_, refl, sym, ap, _∙_}
+use Prim.Native.Nat.{ℕ, zero, suc, _+_, _*_, _-_, _≤_, _<_}
+use native.Mathlib.Omega.{arith}
+use borrow.Author.Tests.{le-leb, lt-leb, le-ltb, lt-ltb}
+use lib.ListN.{length, getD, List·getD-eq-default}
+use Rattle.scene.specs.Record.{fieldIn, recordIn, width}
 use Rattle.table.specs.Question.{numberRefusal}
 
 -- ---- the numbers of a record
 
-pub none-at : (table : List ℕ) (n k : ℕ) → length table ≤ (n - 1) * 10 + k → 0 ≡ fieldIn table n k
-unfolding fieldIn
-none-at table n k h = sym (List·getD-eq-default table 0 h)
+module _ (table : List ℕ) (k : ℕ) where
+  pub no-record : (n : ℕ) → n ≡ 0 → 0 ≡ fieldIn table n k
+  unfolding fieldIn
+  no-record n e = sym (ap (λ (m : ℕ). fieldIn table m k) e)
+
+  pub past-width : (n : ℕ) → width ≤ k → 0 ≡ fieldIn table n k
+  unfolding fieldIn
+  past-width zero h = refl
+  past-width (suc n) h = rw (le-ltb k width h)
+
+  module _ (l : k < width) where
+    pub field-at : (n : ℕ) → (n ≡ 0 → ⊥) → getD table ((n - 1) * width + k) 0 ≡ fieldIn table n k
+    unfolding fieldIn
+    field-at zero h = absurd (h refl)
+    field-at (suc n) h = rw (lt-ltb k width l) (ap (λ (m : ℕ). getD table (m * width + k) 0) (let e : suc n - 1 ≡ n = omega arith in e))
+
+    pub none-at : (n : ℕ) → (n ≡ 0 → ⊥) → length table ≤ (n - 1) * width + k → 0 ≡ fieldIn table n k
+    none-at n z h = sym (List·getD-eq-default table 0 h) ∙ field-at n z
 
 module _ (table : List ℕ) (n : ℕ) where
   pub type-field : fieldIn table n 0 ≡ recordIn table n .type

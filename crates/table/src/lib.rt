@@ -1,7 +1,7 @@
 // The record's layout, and what every user of a table of records does with one. A table may hold anything.
 ghost use mathlib.Core.Path.{_≡_};
-ghost use Prim.Native.Nat.{_-_, _*_, _/_, min};
-ghost use lib.ListN.{length, replicate, take};
+ghost use Prim.Native.Nat.{_*_, _/_, min};
+ghost use lib.ListN.{getD, length, replicate, take};
 ghost use Rattle.scene.specs.HouseRules.{zeroReal};
 ghost use Rattle.scene.specs.Record.{fieldIn, nameIn, settingsFor, width};
 ghost use Rattle.table.specs.Question.{numberRefusal};
@@ -32,7 +32,9 @@ pub const REALS: usize = 8;
 
 pub const NEXT: usize = 9;
 
-// The most records and reals that a reading stores, and how many numbers that many records have.
+// The longest text that is read; the most records and reals that a reading stores, and how many numbers that many records have.
+pub const MOST_BYTES: usize = 65536;
+
 pub const MOST_RECORDS: usize = 1024;
 
 pub const MOST_REALS: usize = 4096;
@@ -49,18 +51,17 @@ pub fn settings_for(numbers: usize, reals: usize) -> Settings
     }
 }
 
-// The index of record n, from 1; that of record 1 for 0.
-fn row_of(n: usize) -> usize
-    ensures { λ r. ⌜ r ≡ n - 1 ⌝ }
-{
-    if n == 0 { 0 } else { n - 1 }
-}
-
-// Number k, from 0, of record n, from 1; 0 where the table has none.
+// Number k, from 0, of record n, from 1; 0 where there is none.
 pub fn field(records: &[u32], n: usize, k: usize) -> u32
     ensures { λ r. ⌜ r ≡ fieldIn (now (records .entry)) n k ⌝ }
 {
-    let row = row_of(n);
+    if n == 0 {
+        return 0;
+    }
+    if WIDTH <= k {
+        return 0;
+    }
+    let row = n - 1;
     if records.len() / WIDTH < row {
         return 0;
     }
@@ -72,6 +73,13 @@ pub fn field(records: &[u32], n: usize, k: usize) -> u32
         return 0;
     }
     records[at + k]
+}
+
+// Real number i, from 0; 0 where the table has none.
+pub fn real_at(reals: &[f64], i: usize) -> f64
+    ensures { λ r. ⌜ r ≡ getD (now (reals .entry)) i zeroReal ⌝ }
+{
+    if i < reals.len() { reals[i] } else { 0.0 }
 }
 
 // The name of record n: what the text has of the part that the record names.

@@ -10,7 +10,7 @@ fn refuse(number: usize, reason: u32, place: usize) -> bool {
 }
 
 fn print_tidy(number: usize, text: &[u8], records: &[u32], reals: &[f64]) -> bool {
-    let mut out = [0u8; input::MOST_BYTES];
+    let mut out = [0u8; table::MOST_BYTES];
     match writer::write(text, records, reals, &mut out) {
         Tidied::Written(n) => output::print(lexer::part(&out, 0, n)),
         Tidied::Refused(reason, place) => refuse(number, reason, place),
@@ -35,7 +35,7 @@ fn pass_over(number: usize) -> bool {
 
 // Answers whether to go on with the next text: not after a failed write.
 fn tidy_text(number: usize) -> bool {
-    let mut text = [0u8; input::MOST_BYTES];
+    let mut text = [0u8; table::MOST_BYTES];
     match input::load(number, &mut text) {
         Loaded::Text(n) => input::print_heading(number) && tidy(number, lexer::part(&text, 0, n)),
         Loaded::TooLong => input::print_heading(number) && refuse(number, 1, 0),

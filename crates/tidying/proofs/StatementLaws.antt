@@ -1,8 +1,8 @@
 -- The tidy text of a proper statement reads as the statement.
-use mathlib.Core.Bool.{Bool, true, false, not, _&&_}
+use mathlib.Core.Bool.{Bool, true, false, not, _&&_, false≢true}
 use mathlib.Core.List.{List, [], _∷_, _++_, append-assoc}
-use mathlib.Core.Path.{_≡_, refl, ap, _∙_, subst}
-use Prim.Native.Nat.{ℕ, suc, _-_, _^_, _<_}
+use mathlib.Core.Path.{_≡_, refl, ap, _∙_}
+use Prim.Native.Nat.{ℕ, zero, suc, _-_, _^_, _<_}
 use native.Mathlib.Omega.{arith}
 use borrow.Author.Tests.{leb-true, eqb-true, not-true}
 use lib.Dec.{T, lit<, leb, eqb}
@@ -21,7 +21,7 @@ use Rattle.scene.specs.Reading.{gap, newline}
 use Rattle.scene.specs.declared.Settings.{Settings}
 use Rattle.scene.proofs.SpellingLaws.{numerals-length}
 use Rattle.scene.specs.Statement.{Literal, numeralWords, Body, primitive, alias, Statement}
-use Rattle.scene.specs.Types.{Kind, any, types, numberFrom, typeNumber, kindOf, typeName, isType}
+use Rattle.scene.specs.Types.{Kind, noType, types, numberFrom, typeNumber, kindOf, typeName, isType}
 use Rattle.tidying.proofs.CountLaws.{count-good, count-reads}
 use Rattle.tidying.proofs.WordLaws.{line-append, from-first, to-word, to-line, to-end, statement}
 use Rattle.tidying.specs.Proper.{Good, Words, Modifier, Name, Literals, Strings, Reals, ProperBody, Proper}
@@ -59,13 +59,10 @@ named-word k t h =
 
 type-word : (t : ℕ) → isType t ≡ true → TypeWord t (typeName t)
 unfolding typeName kindOf
-type-word t h =
-    let noType : Kind = record { name = []; strings = any; reals = any } in
-    let least = leb-true 1 t (and-left (leb 1 t) (leb t 25) h) in
-    let most = leb-true t 25 (and-right (leb 1 t) (leb t 25) h) in
-    let e : suc (t - 1) ≡ t = omega arith in
-    let w = named-word (t - 1) (getD types (t - 1) noType) (is-true _ (entry named noType types all-named (t - 1) (omega arith))) in
-    subst (λ (k : ℕ). TypeWord k (getD types (t - 1) noType .name)) e w
+type-word zero h = absurd (false≢true h)
+type-word (suc t) h =
+    let most = leb-true (suc t) 25 (and-right (leb 1 (suc t)) (leb (suc t) 25) h) in
+    named-word t (getD types t noType) (is-true _ (entry named noType types all-named t (omega arith)))
 
 module _ (r : Settings) (m : Bytes) where
   -- ---- strings

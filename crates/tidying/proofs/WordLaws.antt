@@ -17,12 +17,12 @@ use Rattle.scene.specs.Phase.{Part, atType, Phase, idle, busy, onto, ends, turn
 use Rattle.scene.specs.Reading.{gap, comment, within, keep, first, command, begins, newline}
 use Rattle.scene.specs.declared.Settings.{Settings}
 use Rattle.scene.specs.Statement.{Body, Statement}
-use Rattle.tidying.specs.Proper.{Good, opens}
+use Rattle.tidying.specs.Proper.{Good, mayBegin}
 use Rattle.tidying.specs.Tidy.{spaced, line}
 
 -- whether a word can begin where the phase is: where a statement may begin, two bytes are marks
 abbrev pub starts : Phase → Bytes → Bool
-starts idle w = opens w
+starts idle w = mayBegin w
 starts (busy m p) [] = false
 starts (busy m p) (b ∷ w) = true
 

@@ -25,13 +25,13 @@ abbrev pub Words : List Bytes → Type 0
 Words [] = Unit {0}
 Words (w ∷ ws) = Good w × Words ws
 
--- where a statement may begin, `#` begins a comment and `!` a command
-abbrev pub opens : Bytes → Bool
-opens [] = false
-opens (b ∷ w) = not (eqb b (byte "#")) && not (eqb b (byte "!"))
+-- whether a word may begin a statement: where one may, `#` begins a comment and `!` a command
+abbrev pub mayBegin : Bytes → Bool
+mayBegin [] = false
+mayBegin (b ∷ w) = not (eqb b (byte "#")) && not (eqb b (byte "!"))
 
 abbrev pub Modifier : Bytes → Type 0
-Modifier m = Good m × (opens m ≡ true)
+Modifier m = Good m × (mayBegin m ≡ true)
 
 abbrev pub Name : Bytes → Type 0
 Name n = Good n × (same n void ≡ false)

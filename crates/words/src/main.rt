@@ -27,7 +27,7 @@ fn print_words(text: &[u8]) {
 }
 
 fn main() {
-    let mut text = [0u8; input::MOST_BYTES];
+    let mut text = [0u8; table::MOST_BYTES];
     match input::load_standard(&mut text) {
         Loaded::Text(n) => print_words(lexer::part(&text, 0, n)),
         Loaded::TooLong => {

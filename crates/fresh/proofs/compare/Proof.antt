@@ -13,7 +13,8 @@ use Rattle.laws.specs.Bytes.{same}
 use Rattle.reader.specs.Answer.{readInto}
 use Rattle.scene.specs.HouseRules.{zeroReal}
 use Rattle.scene.specs.Record.{filled}
-use Rattle.fresh.proofs.FreshLaws.{front-within, tables-refused, tables-compared}
+use Rattle.laws.proofs.ListLaws.{front-within}
+use Rattle.fresh.proofs.FreshLaws.{tables-refused, tables-compared}
 use Rattle.fresh.specs.Fresh.{freshOf}
 use Rattle.fresh.specs.declared.Fresh.the-variants.{Same, Refused}
 use Rattle.fresh.proofs.compare.Statement.{statement}

@@ -1,7 +1,6 @@
 -- `kinds::breaks` meets its contract.
 use mathlib.Core.Bool.{not, _&&_}
 use mathlib.Core.Path.{ap, ap₂, _∙_}
-use borrow.Author.Needs.{needs}
 use Rattle.kinds.proofs.HouseLaws.{asks-above-0, asks-at-least-0, asks-above-inner, asks-not-both-0, asks-not-all-0}
 use Rattle.kinds.proofs.breaks.Statement.{statement}
 use Rattle.kinds.proofs.breaks.Tie as tie

@@ -1,12 +1,12 @@
 -- `kinds::spelling` meets its contract.
 use mathlib.Core.Path.{_≡_, refl, ap, _∙_}
-use Prim.Native.Nat.{ℕ, _+_, _-_, _*_, _≤_}
+use Prim.Native.Nat.{_+_, _-_, _*_, _≤_}
 use native.Mathlib.Omega.{arith}
 use borrow.Author.Needs.{needs}
 use lib.ListN.{getD, set}
 use Rattle.laws.specs.Bytes.{Bytes}
 use Rattle.kinds.proofs.CopyLaws.{copied, copied-more, copied-all}
-use Rattle.kinds.specs.Names.{names}
+use Rattle.kinds.specs.Rules.{names}
 use Rattle.kinds.proofs.spelling.Statement.{statement}
 use Rattle.kinds.proofs.spelling.Tie as tie
 

@@ -1,3 +1,4 @@
+-- `lexer::all_good` meets its contract.
 use mathlib.Core.Path.{_≡_, sym, _∙_}
 use borrow.Author.Tests.{not-true, not-false}
 use Rattle.laws.proofs.RunLaws.{all-end, all-stop, all-step}
@@ -6,7 +7,6 @@ use Rattle.lexer.specs.Class.{isGood}
 use Rattle.laws.specs.Runs.{all}
 use lib.ListN.{length, drop}
 use Prim.Native.Nat.{_-_}
-use mathlib.Core.Path.{_≡_}
 use borrow.Author.Needs.{needs}
 use Rattle.lexer.proofs.all_good.Statement.{statement}
 use Rattle.lexer.proofs.all_good.Tie as tie

@@ -1,3 +1,4 @@
+-- `lexer::part` meets its contract.
 use Rattle.laws.proofs.ListLaws.{cut-part}
 -- `lexer::part` meets its contract: a start past the end and a length past it are cut.
 use borrow.Author.Needs.{needs}

@@ -1,3 +1,4 @@
+-- `lexer::run_end` meets its contract.
 use mathlib.Core.Path.{_≡_, sym, _∙_}
 use Rattle.laws.proofs.BoolLaws.{agree, differ}
 use Rattle.laws.proofs.RunLaws.{past-end, past-stop, past-step}
@@ -7,7 +8,6 @@ use Rattle.lexer.specs.Class.{isRun}
 use Rattle.laws.specs.Runs.{past}
 use lib.ListN.{length}
 use Prim.Native.Nat.{_-_}
-use mathlib.Core.Path.{_≡_}
 use borrow.Author.Needs.{needs}
 use Rattle.lexer.proofs.run_end.Statement.{statement}
 use Rattle.lexer.proofs.run_end.Tie as tie

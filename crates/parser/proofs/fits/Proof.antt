@@ -1,6 +1,5 @@
-use native.Mathlib.Omega.{arith}
+-- `parser::fits` meets its contract.
 use Rattle.parser.proofs.AnswerLaws.{fits-within, fits-not}
-use borrow.Author.Needs.{needs}
 use Rattle.parser.proofs.fits.Statement.{statement}
 use Rattle.parser.proofs.fits.Tie as tie
 

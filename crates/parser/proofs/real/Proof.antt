@@ -1,3 +1,4 @@
+-- `parser::real` meets its contract.
 use native.Mathlib.Omega.{arith}
 use Rattle.numeral.specs.Numeral.{answerOf}
 use Rattle.parser.proofs.AnswerLaws.{means, real-breach, real-full, real-last, real-more, real-refused}

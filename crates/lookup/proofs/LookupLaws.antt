@@ -1,18 +1,20 @@
 -- The backward search: one turn of it, and that it finds what the definition of a lookup names.
-use mathlib.Core.Bool.{Bool, true, false, _&&_, cond}
+use mathlib.Core.Bool.{Bool, true, false, _&&_, cond, and-true, and-false}
 use mathlib.Core.List.{List, [], _∷_, _++_, append-assoc}
 use mathlib.Core.Logic.{_≢_}
 use mathlib.Core.Path.{_≡_, refl, ap, sym, _∙_, subst}
 use Prim.Native.Nat.{ℕ, zero, suc, _+_, _-_, _*_, _≤_, _<_}
+use native.Mathlib.Nat.{add-zero}
 use native.Mathlib.Omega.{arith}
-use borrow.Author.Tests.{eq-eqb, eqb-true, le-leb, leb-true}
+use borrow.Author.Tests.{eq-eqb, ne-eqb, eqb-true, le-leb, leb-true}
 use lib.Dec.{eqb, leb}
-use lib.ListN.{length, length-append, length-drop, getD, drop}
-use lib.Seq.{length-take-le, getD-take, getD-drop, ext-getD}
+use lib.ListN.{length, length-append, getD}
+use lib.Seq.{ext-getD}
 use Rattle.laws.proofs.BoolLaws.{and-left, and-right, not-both}
 use Rattle.laws.proofs.BytesLaws.{same-eq, same-refl, same-sized}
+use Rattle.laws.proofs.ListLaws.{part-at, part-length}
 use Rattle.laws.specs.Bytes.{part, same, Bytes}
-use Rattle.linker.specs.Lookup.{hasName, latestIn}
+use Rattle.lookup.specs.Lookup.{hasName, latestIn}
 use Rattle.scene.proofs.GivesLaws.{hits-name}
 use Rattle.scene.proofs.ImageLaws.{name-is, record-is}
 use Rattle.scene.proofs.PlaceLaws.{Says, AllRead}
@@ -50,13 +52,37 @@ module _ (text : Bytes) (es : List Entry) (n : ℕ) (h : AllRead (text ++ newlin
   pub search-latest : (w : Bytes) → latestIn text table w (length es) ≡ latest w (statements es)
   search-latest w = search-is w [] es refl
 
+-- ---- one turn of the search for a name with no bytes
+
+module _ (text : Bytes) (tb : List ℕ) (N : ℕ) (h₀ : 0 < N) (size place : ℕ) (hs : size ≡ fieldIn tb N 4) (hp : place ≡ fieldIn tb N 3) where
+  abbrev is-empty : Bool
+  is-empty = eqb size 0 && leb place (length text)
+
+  empty-turn : latestIn text tb [] N ≡ cond is-empty N (latestIn text tb [] (N - 1))
+  unfolding latestIn hasName nameIn recordIn same
+  empty-turn =
+      let n : N ≡ suc (N - 1) = omega arith in
+      ap (latestIn text tb []) n
+      ∙ (λ i. cond (leb (fieldIn tb (sym n i) 3 + fieldIn tb (sym n i) 4) (length text) && eqb (fieldIn tb (sym n i) 4) 0 && same [] (part text (fieldIn tb (sym n i) 3) (fieldIn tb (sym n i) 4))) (sym n i) (latestIn text tb [] (N - 1)))
+      ∙ (λ i. cond (leb (sym hp i + sym hs i) (length text) && eqb (sym hs i) 0 && same [] (part text (sym hp i) (sym hs i))) N (latestIn text tb [] (N - 1)))
+      ∙ ap (λ (b : Bool). cond b N (latestIn text tb [] (N - 1))) (go size)
+    where
+      go : (k : ℕ) → (leb (place + k) (length text) && eqb k 0 && same [] (part text place k)) ≡ (eqb k 0 && leb place (length text))
+      go zero = rw (add-zero place) (and-true (leb place (length text) && true) ∙ and-true (leb place (length text)))
+      go (suc k) = rw (ne-eqb (suc k) 0 (λ e. omega arith), and-false (leb (place + suc k) (length text)))
+
+  pub empty-hit : is-empty ≡ true → latestIn text tb [] N ≡ N
+  empty-hit e = empty-turn ∙ ap (λ (b : Bool). cond b N (latestIn text tb [] (N - 1))) e
+
+  pub empty-miss : is-empty ≡ false → latestIn text tb [] N ≡ latestIn text tb [] (N - 1)
+  empty-miss e = empty-turn ∙ ap (λ (b : Bool). cond b N (latestIn text tb [] (N - 1))) e
+
 -- ---- one turn of the search
 
-part-length : (text : Bytes) (p n : ℕ) → p + n ≤ length text → length (part text p n) ≡ n
-part-length text p n h = length-take-le n (drop p text) (rw length-drop (omega arith))
-
-part-at : (text : Bytes) (p n k : ℕ) → k < n → getD (part text p n) k 0 ≡ getD text (p + k) 0
-part-at text p n k h = getD-take n (drop p text) k 0 h ∙ getD-drop p text k 0
+-- a word with no bytes
+pub find-nothing : (text : Bytes) (tb : List ℕ) (w : Bytes) (n m : ℕ) → length w ≡ 0 → n ≡ m → latestIn text tb [] n ≡ latestIn text tb w m
+find-nothing text tb [] n m h e = ap (latestIn text tb []) e
+find-nothing text tb (x ∷ w) n m h e = absurd (omega arith)
 
 -- a word that the text is too short for is nobody's name
 pub find-short : (text : Bytes) (tb : List ℕ) (w : Bytes) (n : ℕ) → length text < length w → latestIn text tb w n ≡ 0
@@ -72,8 +98,8 @@ find-short text tb w (suc n) h = ap (λ (b : Bool). cond b (suc n) (latestIn tex
         not-both (in-text && sized) (same w (nameIn text tb (suc n)))
         (λ a b. omega (arith, leb-true (r .name + r .nameLength) (length text) (and-left in-text sized a), eqb-true (r .nameLength) (length w) (and-right in-text sized a)))
 
--- record N, which names `size` bytes from `place` on; `last` is the last place where so many bytes fit as the word has
-module _ (text : Bytes) (tb : List ℕ) (w : Bytes) (fits : length w ≤ length text) (last : ℕ) (hl : last ≡ length text - length w) (N : ℕ) (h₀ : N ≢ 0) (place size : ℕ)
+-- record N, which names `size` bytes from `place` on; `most` is the last place where so many bytes fit as the word has
+module _ (text : Bytes) (tb : List ℕ) (w : Bytes) (fits : length w ≤ length text) (most : ℕ) (hm : most ≡ length text - length w) (N : ℕ) (h₀ : N ≢ 0) (place size : ℕ)
     (hp : place ≡ getD tb ((N - 1) * width + 3) 0) (hs : size ≡ getD tb ((N - 1) * width + 4) 0) where
   stands : Bool
   stands = leb (place + size) (length text) && eqb size (length w)
@@ -83,8 +109,7 @@ module _ (text : Bytes) (tb : List ℕ) (w : Bytes) (fits : length w ≤ length 
   turn =
       let n : N ≡ suc (N - 1) = omega arith in
       ap (latestIn text tb w) n
-      ∙ ap (λ (k : ℕ). cond (hasName text tb k w) k (latestIn text tb w (N - 1))) (sym n)
-      ∙ (λ i. cond (leb (sym hp i + sym hs i) (length text) && eqb (sym hs i) (length w) && same w (part text (sym hp i) (sym hs i))) N (latestIn text tb w (N - 1)))
+      ∙ (λ i. cond (leb (sym hp i + sym hs i) (length text) && eqb (sym hs i) (length w) && same w (part text (sym hp i) (sym hs i))) (sym n i) (latestIn text tb w (N - 1)))
 
   one-less : (place + size ≤ length text → size ≡ length w → w ≡ part text place size → ⊥) → latestIn text tb w N ≡ latestIn text tb w (N - 1)
   unfolding stands
@@ -94,21 +119,21 @@ module _ (text : Bytes) (tb : List ℕ) (w : Bytes) (fits : length w ≤ length 
   pub find-sized : (size ≡ length w → ⊥) → latestIn text tb w N ≡ latestIn text tb w (N - 1)
   find-sized h = one-less (λ p q e. h q)
 
-  pub find-beyond : last < place → latestIn text tb w N ≡ latestIn text tb w (N - 1)
+  pub find-beyond : most < place → latestIn text tb w N ≡ latestIn text tb w (N - 1)
   find-beyond h = one-less (λ p q e. omega arith)
 
-  module _ (q : size ≡ length w) (p : place ≤ last) where
+  module _ (q : size ≡ length w) (p : place ≤ most) where
     pub find-fits : place + length w ≤ length text
     find-fits = omega arith
 
     pub find-byte : (i : ℕ) → i < length w → (getD text (place + i) 0 ≡ getD w i 0 → ⊥) → latestIn text tb w N ≡ latestIn text tb w (N - 1)
-    find-byte i l h = one-less (λ p q e. h (sym (part-at text place size i (omega arith)) ∙ sym (ap (λ (z : Bytes). getD z i 0) e)))
+    find-byte i l h = one-less (λ p q e. h (sym (part-at text place size i 0 (omega arith)) ∙ sym (ap (λ (z : Bytes). getD z i 0) e)))
 
     pub find-hit : ((k : ℕ) → k < length w → getD text (place + k) 0 ≡ getD w k 0) → latestIn text tb w N ≡ N
     unfolding stands
     find-hit h =
         let f : place + size ≤ length text = omega arith in
-        let e : w ≡ part text place size = ext-getD 0 w (part text place size) (sym q ∙ sym (part-length text place size f)) (λ k l. sym (h k l) ∙ sym (part-at text place size k (omega arith))) in
+        let e : w ≡ part text place size = ext-getD 0 w (part text place size) (sym q ∙ sym (part-length text place size f)) (λ k l. sym (h k l) ∙ sym (part-at text place size k 0 (omega arith))) in
         turn ∙ rw (le-leb (place + size) (length text) f, eq-eqb size (length w) q) (ap (λ (b : Bool). cond b N (latestIn text tb w (N - 1))) (ap (same w) (sym e) ∙ same-refl w))
 
 pub find-none : (text : Bytes) (tb : List ℕ) (w : Bytes) → latestIn text tb w 0 ≡ 0

@@ -1,12 +1,12 @@
--- `linker::real_at` meets its contract.
+-- `table::real_at` meets its contract.
 use mathlib.Core.Path.{sym}
 use native.Mathlib.Omega.{arith}
 use lib.ListN.{List·getD-eq-default}
-use Rattle.linker.proofs.TableLaws.{real-there}
+use Rattle.laws.proofs.TableLaws.{any-default}
 use Rattle.scene.specs.HouseRules.{zeroReal}
 use borrow.Author.Needs.{needs}
-use Rattle.linker.proofs.real_at.Statement.{statement}
-use Rattle.linker.proofs.real_at.Tie as tie
+use Rattle.table.proofs.real_at.Statement.{statement}
+use Rattle.table.proofs.real_at.Tie as tie
 
 mul-result : tie.Need-mul-result
 mul-result c = search needs
@@ -15,7 +15,7 @@ shared-slice-read-result : tie.Need-shared-slice-read-result
 shared-slice-read-result c = search needs
 
 returns : tie.Need-returns
-returns c = real-there (c .before .before .args .reals .now) _ _ (c .before .if1 .taken)
+returns c = any-default (c .before .before .args .reals .now) _ _ zeroReal (c .before .if1 .taken)
 
 returns-2 : tie.Need-returns-2
 unfolding lib.Ieee.ofBits

@@ -1,4 +1,6 @@
 pub mod CompareLaws
 pub mod RenumberLaws
 pub mod ExchangeLaws
+pub mod StepLaws
+pub mod LineLaws
 pub mod HandLaws

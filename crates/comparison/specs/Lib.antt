@@ -1,3 +1,5 @@
 -- To be believed.
 pub mod Compare
-pub mod Hand
+pub mod NextLine
+-- Inner models of the proofs.
+pub mod Steps

@@ -4,7 +4,8 @@ ghost use mathlib.Core.Path.{_≡_};
 ghost use Prim.Native.Nat.{suc};
 ghost use Rattle.keys.specs.Key.{nthOf};
 ghost use Rattle.keys.specs.Rows.{sceneRows};
-ghost use Rattle.comparison.specs.Hand.{firstNumbers, lesserOf, nextLine, nextNumbers, nextStep, numbersAfter, numbersOf, stepBy};
+ghost use Rattle.comparison.specs.NextLine.{nextLine};
+ghost use Rattle.comparison.specs.Steps.{firstNumbers, lesserOf, nextNumbers, nextStep, numbersAfter, numbersOf, stepBy};
 
 // A primitive's number in one of both scenes. Number 0 stands before the first key.
 pub enum Place {
@@ -50,8 +51,8 @@ fn at_key(
 ) -> Numbers
     ensures { λ r. ⌜ r ≡ numbersOf (sceneRows (now (left .entry)) (now («left_records» .entry)) []) (sceneRows (now (right .entry)) (now («right_records» .entry)) []) (nthOf (now (name .entry)) (suc above)) ⌝ }
 {
-    let m = keys::numbered(left, left_records, name, above);
-    let n = keys::numbered(right, right_records, name, above);
+    let m = keys::number_of_key(left, left_records, name, above);
+    let n = keys::number_of_key(right, right_records, name, above);
     if (m == 0) & (n == 0) {
         return Numbers {
             left: 0,

@@ -103,6 +103,10 @@ module _ (a : Bytes) (ra : List ℕ) (m : ℕ) (b : Bytes) (rb : List ℕ) (n x 
   pub strings-words : (i j : ℕ) (s : Bool) → x ≡ y → i ≡ recordIn ra m .string → j ≡ recordIn rb n .string → s ≡ sameWords (wordsFrom a i x) (wordsFrom b j x) → s ≡ sameWords (stringsOf a (recordIn ra m)) (stringsOf b (recordIn rb n))
   strings-words i j s h e f g = g ∙ (λ k. sameWords (wordsFrom a (e k) (p k)) (wordsFrom b (f k) ((h ∙ q) k)))
 
+-- the keys that two links lead to, by the numbers that they hold
+pub links-lead : (a : Bytes) (ra : List ℕ) (b : Bytes) (rb : List ℕ) (i j m n : ℕ) (r : Bool) → i ≡ m → j ≡ n → r ≡ sameKey (keyOf (sceneRows a ra []) i) (keyOf (sceneRows b rb []) j) → r ≡ sameKey (keyOf (sceneRows a ra []) m) (keyOf (sceneRows b rb []) n)
+links-lead a ra b rb i j m n r p q e = e ∙ (λ k. sameKey (keyOf (sceneRows a ra []) (p k)) (keyOf (sceneRows b rb []) (q k)))
+
 -- a table with no reals has none of a primitive's
 no-reals : (k i : ℕ) → _≡_ {A = List Float} (take k (drop i [])) []
 no-reals zero i = refl

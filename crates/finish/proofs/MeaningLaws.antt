@@ -36,11 +36,11 @@ finish-void w [] k v = refl
 finish-void w (s ∷ d) k v = rw v
 
 -- what the walk comes to at the statements from a name's on
-abbrev pub finishAt : List Statement → ℕ → Finish
+abbrev finishAt : List Statement → ℕ → Finish
 finishAt [] k = Reached 0 k
 finishAt (s ∷ d) k = cond (isMaterial (typeIn (ownBody (s .body) d))) (Reached (suc (length d)) (suc k)) (finishIn (s .modifier) d (suc k))
 
-pub finish-found : (w : Bytes) (d : List Statement) (k : ℕ) → same w void ≡ false → finishIn w d k ≡ finishAt (found w d) k
+finish-found : (w : Bytes) (d : List Statement) (k : ℕ) → same w void ≡ false → finishIn w d k ≡ finishAt (found w d) k
 unfolding finishIn found
 finish-found w [] k v = refl
 finish-found w (s ∷ d) k v = rw v (go (hits w s) (finish-found w d k v))
@@ -50,7 +50,7 @@ finish-found w (s ∷ d) k v = rw v (go (hits w s) (finish-found w d k v))
     go false h = h
 
 -- it refuses nothing
-pub finish-reaches : (w : Bytes) (d : List Statement) (k : ℕ) → numbersOf (finishIn w d k) .reason ≡ 0
+finish-reaches : (w : Bytes) (d : List Statement) (k : ℕ) → numbersOf (finishIn w d k) .reason ≡ 0
 unfolding finishIn
 finish-reaches w [] k = refl
 finish-reaches w (s ∷ d) k = go (same w void) (hits w s) (isMaterial (typeIn (ownBody (s .body) d))) (finish-reaches (s .modifier) d (suc k)) (finish-reaches w d k)
@@ -176,7 +176,7 @@ module _ (es : List Entry) (table : List ℕ) (row : (n : ℕ) → recordIn tabl
 -- ---- an accepted text
 
 -- every statement's type, its target's if it is an alias, is one of the 25
-pub own-type : (r : Settings) (text : Bytes) (es : List Entry) → read r text ≡ accepted es → (later : List Statement) (s : Statement) (earlier : List Statement) → statements es ≡ later ++ s ∷ earlier → IsType (typeIn (ownBody (s .body) earlier))
+own-type : (r : Settings) (text : Bytes) (es : List Entry) → read r text ≡ accepted es → (later : List Statement) (s : Statement) (earlier : List Statement) → statements es ≡ later ++ s ∷ earlier → IsType (typeIn (ownBody (s .body) earlier))
 own-type r text es reads later s earlier q = go (s .body) refl
   where
     go : (b : Body) → s .body ≡ b → IsType (typeIn (ownBody b earlier))
@@ -189,7 +189,7 @@ module _ (r : Settings) (text : Bytes) (es : List Entry) (reads : read r text �
   image-row n = ap (λ (z : Reading). recordIn (recordImage text m z) n) reads ∙ record-in text (records es) m n
 
   -- the walk from a primitive of the table, with an allowance of all before it, is the walk from its statement
-  pub walk-means : (left k : ℕ) → length x ≤ left → walkFrom (viewOf (recordImage text m (read r text))) left k (suc (length x)) ≡ finishIn (e .statement .modifier) (statements x) k
+  walk-means : (left k : ℕ) → length x ≤ left → walkFrom (viewOf (recordImage text m (read r text))) left k (suc (length x)) ≡ finishIn (e .statement .modifier) (statements x) k
   walk-means left k h = walk-from es (recordImage text m (read r text)) image-row (accepted-linked r text es reads) (own-type r text es reads) left k l e x q h
 
   image-length : length es * width ≤ length (recordImage text m (read r text))
@@ -205,7 +205,7 @@ module _ (r : Settings) (text : Bytes) (es : List Entry) (reads : read r text �
       few = omega (arith, fit-forth r (statements es) ((accept-forth r text es reads) .2) .1, statements-length es)
 
   -- the question's answer is the walk from its statement
-  pub finish-means : (allowance : ℕ) → r .records ≤ 1024 → length x ≤ allowance → finishOf (recordImage text m (read r text)) (length es) (suc (length x)) allowance ≡ finishIn (e .statement .modifier) (statements x) 0
+  finish-means : (allowance : ℕ) → r .records ≤ 1024 → length x ≤ allowance → finishOf (recordImage text m (read r text)) (length es) (suc (length x)) allowance ≡ finishIn (e .statement .modifier) (statements x) 0
   unfolding finishOf
   finish-means allowance c h = rw (number-fine c) (walk-means allowance 0 h)
 

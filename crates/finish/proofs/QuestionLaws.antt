@@ -28,7 +28,7 @@ module _ (text : Bytes) (place len : ℕ) where
   unfolding nameTest
   name-inside z o = rw (le-leb 1 len z, le-leb (place + len) (length text) o)
 
-  pub inside-of : nameTest text place len ≡ 0 → (0 < len) × (place + len ≤ length text)
+  inside-of : nameTest text place len ≡ 0 → (0 < len) × (place + len ≤ length text)
   unfolding nameTest
   inside-of e = go (leb 1 len && leb (place + len) (length text)) refl e
     where

@@ -51,10 +51,10 @@ least-above w t = go (lower w (t .name)) refl
     go true e = record { above≡ = e; there = rw (same-refl (t .name)) (omega arith); least = λ v l m. never v (same v (t .name)) refl (λ q. false≢true (sym (lower-irreflexive (t .name)) ∙ subst (λ (x : Bytes). lower x (t .name) ≡ true) q m)) }
     go false e = λ v l. never v (same v (t .name)) refl (λ q. false≢true (sym e ∙ ap (lower w) (sym q) ∙ l))
 
-pub least-name : (w : Bytes) (d : List Told) → Least w (λ v. times v d) (leastAbove w d)
+pub least-scene : (w : Bytes) (d : List Told) → Least w (λ v. times v d) (leastAbove w d)
 unfolding times leastAbove
-least-name w [] = λ v l. refl
-least-name w (t ∷ d) = subst (λ (c : Bytes → ℕ). Least w c (lesser (leastAbove w d) (above w (t .name)))) (λ i v. count v i) (least-lesser w (λ v. times v d) (λ v. times v (t ∷ [])) (leastAbove w d) (above w (t .name)) (least-name w d) (least-above w t))
+least-scene w [] = λ v l. refl
+least-scene w (t ∷ d) = subst (λ (c : Bytes → ℕ). Least w c (lesser (leastAbove w d) (above w (t .name)))) (λ i v. count v i) (least-lesser w (λ v. times v d) (λ v. times v (t ∷ [])) (leastAbove w d) (above w (t .name)) (least-scene w d) (least-above w t))
   where
     count : (v : Bytes) → times v d + times v (t ∷ []) ≡ times v (t ∷ d)
     count v = omega (arith, times-append v (t ∷ []) d)

@@ -13,11 +13,12 @@ use Rattle.laws.proofs.NatLaws.{le-or-lt}
 use Rattle.laws.specs.Bytes.{Bytes}
 use Rattle.scene.specs.Told.{Told}
 use Rattle.keys.proofs.KeyLaws.{ahead-over, increasing-same, keys-increasing, keys-stand}
-use Rattle.keys.proofs.LeastLaws.{LeastOf, Least, least-lesser, least-name}
+use Rattle.keys.proofs.LeastLaws.{LeastOf, Least, least-lesser, least-scene}
 use Rattle.keys.proofs.NumberLaws.{found-times}
 use Rattle.keys.proofs.OrderLaws.{lower-irreflexive, lower-transitive, same-key, key-same, before-one, Earlier, before-earlier, earlier-before, before-transitive}
+use Rattle.keys.specs.After.{after, start}
 use Rattle.keys.specs.Key.{Key, nthOf, times, sameKey, found, isFound, lower, before, keysOf}
-use Rattle.keys.specs.Next.{after, start, lesser, leastAbove, oneMore, firstOf, nextName, nextKey, onward}
+use Rattle.keys.specs.Next.{lesser, leastAbove, oneMore, firstOf, nextName, nextKey, onward}
 use Rattle.keys.specs.Properties.{OneOf, first, second, third, Ahead, Increasing, standsIn}
 
 -- ---- those that come after a key
@@ -168,7 +169,7 @@ module _ (l r : List Told) where
       where
         go : (b : Bool) → standsIn (oneMore k) (keysOf l r) ≡ b → after k (keysOf l r) ≡ onward (cond b (some (oneMore k)) (nextName l r (k .name))) (keysOf l r)
         go true e = after-some (keysOf l r) k (oneMore k) (keys-increasing l r) (follows-more e)
-        go false e = after-above e (lesser (leastAbove (k .name) l) (leastAbove (k .name) r)) (least-lesser (k .name) (λ v. times v l) (λ v. times v r) (leastAbove (k .name) l) (leastAbove (k .name) r) (least-name (k .name) l) (least-name (k .name) r))
+        go false e = after-above e (lesser (leastAbove (k .name) l) (leastAbove (k .name) r)) (least-lesser (k .name) (λ v. times v l) (λ v. times v r) (leastAbove (k .name) l) (leastAbove (k .name) r) (least-scene (k .name) l) (least-scene (k .name) r))
 
     -- the next key is in one of both scenes
     pub next-stands : (i : Key) → nextKey l r k ≡ some i → standsIn i (keysOf l r) ≡ true

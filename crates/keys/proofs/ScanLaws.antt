@@ -19,9 +19,9 @@ use Rattle.scene.specs.Record.{recordIn, nameIn, width}
 use Rattle.scene.specs.Told.{Told, tells}
 use Rattle.keys.proofs.NumberLaws.{found-times, from-above, from-found}
 use Rattle.keys.specs.Key.{Key, nthOf, times, keyOver, keyAt, keyOf, from, sameKey, found, isFound, lower}
-use Rattle.keys.specs.Next.{lesser, above, leastAbove}
+use Rattle.keys.specs.Next.{namedBy, lesser, above, leastAbove}
 use Rattle.keys.specs.Rows.{rowsIn, sceneRows}
-use Rattle.keys.specs.Scan.{namedBy, better}
+use Rattle.keys.specs.Scan.{better, leastIn}
 
 -- two names from place i on: where b ends first, at a byte that differs, past one that agrees, and where a ends
 module _ (a b : Bytes) (i : ℕ) where
@@ -165,9 +165,9 @@ module _ (text : Bytes) (records : List ℕ) where
   -- ---- the one that has so many of its name above it
 
   module _ (w : Bytes) (count up : ℕ) where
-    pub numbered-hit : (k seen h : ℕ) → k < count → seen ≡ times w (rowsIn text records [] k) → seen ≤ up → h ≡ cond (same w (nameIn text records (k + 1))) 1 0 → up < seen + h → k + 1 ≡ length (found (nthOf w (suc up)) (rowsIn text records [] count))
+    pub number-hit : (k seen h : ℕ) → k < count → seen ≡ times w (rowsIn text records [] k) → seen ≤ up → h ≡ cond (same w (nameIn text records (k + 1))) 1 0 → up < seen + h → k + 1 ≡ length (found (nthOf w (suc up)) (rowsIn text records [] count))
     unfolding rowsIn
-    numbered-hit k seen h l p m q u = go (same w (nameIn text records (suc k))) refl (q ∙ rw add-one)
+    number-hit k seen h l p m q u = go (same w (nameIn text records (suc k))) refl (q ∙ rw add-one)
       where
         row : Told
         row = tells text [] (recordIn records (suc k))
@@ -181,8 +181,8 @@ module _ (text : Bytes) (records : List ℕ) where
             sym (ap length f ∙ ap suc (rows-count [] k) ∙ (let z : suc k ≡ k + 1 = omega arith in z))
         go false e g = absurd (omega arith)
 
-    pub numbered-none : (k seen : ℕ) → count ≤ k → k ≤ count → seen ≡ times w (rowsIn text records [] k) → seen ≤ up → 0 ≡ length (found (nthOf w (suc up)) (rowsIn text records [] count))
-    numbered-none k seen l m p u =
+    pub number-none : (k seen : ℕ) → count ≤ k → k ≤ count → seen ≡ times w (rowsIn text records [] k) → seen ≤ up → 0 ≡ length (found (nthOf w (suc up)) (rowsIn text records [] count))
+    number-none k seen l m p u =
         let q : times w (rowsIn text records [] k) ≡ times w (rowsIn text records [] count) = ap (λ (n : ℕ). times w (rowsIn text records [] n)) (let e : k ≡ count = omega arith in e) in
         go (found (nthOf w (suc up)) (rowsIn text records [] count)) (found-times (nthOf w (suc up)) (rowsIn text records [] count) ∙ rw (lt-leb (suc up) (times w (rowsIn text records [] count)) (omega arith)) (and-false (leb 1 (suc up))))
       where
@@ -193,13 +193,18 @@ module _ (text : Bytes) (records : List ℕ) where
   -- ---- the least name above another
 
   module _ (w : Bytes) where
-    pub least-none : namedBy text records 0 ≡ leastAbove w (rowsIn text records [] 0)
-    unfolding leastAbove rowsIn
-    least-none = refl
+    pub least-start : 0 ≡ leastIn text records w 0
+    unfolding leastIn
+    least-start = refl
 
-    pub least-more : (k best r : ℕ) → namedBy text records best ≡ leastAbove w (rowsIn text records [] k) → r ≡ better text records w best (k + 1) → namedBy text records r ≡ leastAbove w (rowsIn text records [] (k + 1))
-    unfolding leastAbove rowsIn tells better nameIn
-    least-more k best r p q = ap (namedBy text records) (q ∙ ap (better text records w best) (add-one k)) ∙ go best (lower w (nameIn text records (suc k))) ∙ ap (λ (o : Option Bytes). lesser o (above w (nameIn text records (suc k)))) p ∙ sym (ap (λ (n : ℕ). leastAbove w (rowsIn text records [] n)) (add-one k))
+    pub least-step : (k best r : ℕ) → best ≡ leastIn text records w k → r ≡ better text records w best (k + 1) → r ≡ leastIn text records w (k + 1)
+    unfolding leastIn
+    least-step k best r p q = q ∙ (λ i. better text records w (p i) (add-one k i)) ∙ ap (leastIn text records w) (sym (add-one k))
+
+    -- the better of two has the lesser name
+    better-name : (best k : ℕ) → namedBy text records (better text records w best (suc k)) ≡ lesser (namedBy text records best) (above w (nameIn text records (suc k)))
+    unfolding better
+    better-name best k = go best (lower w (nameIn text records (suc k)))
       where
         pick : (m : ℕ) (c : Bool) → namedBy text records (cond c (suc k) (suc m)) ≡ cond c (some (nameIn text records (suc k))) (some (nameIn text records (suc m)))
         pick m true = refl
@@ -210,6 +215,15 @@ module _ (text : Bytes) (records : List ℕ) where
         go zero false = refl
         go (suc m) true = rw (ne-eqb (suc m) 0 (λ e. omega arith)) (pick m (lower (nameIn text records (suc k)) (nameIn text records (suc m))))
         go (suc m) false = refl
+
+    least-rows : (k : ℕ) → namedBy text records (leastIn text records w k) ≡ leastAbove w (rowsIn text records [] k)
+    unfolding leastIn leastAbove rowsIn tells nameIn
+    least-rows zero = refl
+    least-rows (suc k) = better-name (leastIn text records w k) k ∙ ap (λ (o : Option Bytes). lesser o (above w (nameIn text records (suc k)))) (least-rows k)
+
+    -- the number found has the least name above w
+    pub least-name : (r : ℕ) → r ≡ leastIn text records w (length records / width) → namedBy text records r ≡ leastAbove w (sceneRows text records [])
+    least-name r e = ap (namedBy text records) e ∙ least-rows (length records / width)
 
   -- the better of two, by what each test came to
   module _ (w v : Bytes) (best n : ℕ) (e : v ≡ nameIn text records n) (p : Bool) (t : p ≡ lower w v) where

@@ -1,7 +1,8 @@
 -- To be believed.
 pub mod Key
 pub mod Rows
-pub mod Next
+pub mod After
+pub mod Scan
 pub mod Properties
 -- Inner models of the proofs.
-pub mod Scan
+pub mod Next

@@ -2,19 +2,17 @@
 use mathlib.Core.Bool.{cond, _||_}
 use mathlib.Core.List.{List, [], _∷_}
 use mathlib.Core.Option.{Option, none, some}
-use Prim.Native.Nat.{suc}
+use Prim.Native.Nat.{ℕ, zero, suc}
 use Rattle.laws.specs.Bytes.{Bytes}
+use Rattle.scene.specs.Record.{nameIn}
 use Rattle.scene.specs.Told.{Told}
-use Rattle.keys.specs.Key.{Key, nthOf, keyAt, found, isFound, lower, before}
+use Rattle.keys.specs.After.{after}
+use Rattle.keys.specs.Key.{Key, nthOf, found, isFound, lower}
 
--- those of a list that come after a key
-unfoldable pub after : Key → List Key → List Key
-after k [] = []
-after k (x ∷ xs) = let rest = after k xs in cond (before k x) (x ∷ rest) rest
-
--- the key that no primitive has, which comes before every other
-abbrev pub start : Key
-start = keyAt []
+-- the name that a number leads to, if any
+abbrev pub namedBy : Bytes → (records : List ℕ) → (n : ℕ) → Option Bytes
+namedBy text records zero = none
+namedBy text records (suc n) = some (nameIn text records (suc n))
 
 -- the lesser of two names, where there are any
 abbrev pub lesser : Option Bytes → Option Bytes → Option Bytes

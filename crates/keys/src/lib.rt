@@ -9,9 +9,8 @@ ghost use lib.ListN.{length};
 ghost use Rattle.laws.specs.Bytes.{same};
 ghost use Rattle.scene.specs.Record.{nameIn, width};
 ghost use Rattle.keys.specs.Key.{found, keyOf, lower, nthOf, sameKey, times};
-ghost use Rattle.keys.specs.Next.{leastAbove};
 ghost use Rattle.keys.specs.Rows.{rowsIn, sceneRows};
-ghost use Rattle.keys.specs.Scan.{better, namedBy};
+ghost use Rattle.keys.specs.Scan.{better, leastIn};
 use table::WIDTH;
 
 // Whether name a comes before name b: the first byte that differs decides, and a prefix comes first.
@@ -54,9 +53,9 @@ fn times(text: &[u8], records: &[u32], n: usize, name: &[u8]) -> usize
     seen
 }
 
-// The number of the one that has so many of that name above it. The count above, not nth, is what the caller gives: one more
-// than it may be past the largest number.
-pub fn numbered(text: &[u8], records: &[u32], name: &[u8], above: usize) -> usize
+// The number of a key: of the primitive that has a name and so many of that name above it; 0 where there is none. The count
+// above, not nth, is what the caller gives: one more than it may be past the largest number.
+pub fn number_of_key(text: &[u8], records: &[u32], name: &[u8], above: usize) -> usize
     ensures { λ r. ⌜ r ≡ length (found (nthOf (now (name .entry)) (suc above)) (sceneRows (now (text .entry)) (now (records .entry)) [])) ⌝ }
 {
     let mut seen = 0;
@@ -88,9 +87,9 @@ fn better(text: &[u8], records: &[u32], name: &[u8], best: usize, n: usize) -> u
     best
 }
 
-// One with the least name above a name.
+// The number of the first one with the least name above a name; 0 where there is none.
 pub fn least_above(text: &[u8], records: &[u32], name: &[u8]) -> usize
-    ensures { λ r. ⌜ namedBy (now (text .entry)) (now (records .entry)) r ≡ leastAbove (now (name .entry)) (sceneRows (now (text .entry)) (now (records .entry)) []) ⌝ }
+    ensures { λ r. ⌜ r ≡ leastIn (now (text .entry)) (now (records .entry)) (now (name .entry)) (length (now (records .entry)) / width) ⌝ }
 {
     let mut best = 0;
     let mut k = 0;

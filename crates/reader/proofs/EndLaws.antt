@@ -93,7 +93,7 @@ module _ (text : Bytes) (table : List ℕ) (reals : List Float) (room : Settings
   abbrev Did : Step → Type 0
   Did step = Stepped text table reals room s len step
 
-  pub did-refuse : (n p : ℕ) → Did (to.Refused n p) → result text room ≡ refused n p
+  did-refuse : (n p : ℕ) → Did (to.Refused n p) → result text room ≡ refused n p
   did-refuse n p S = refuses text table reals room s len (S .stands) n p (S .goes)
 
   -- the reals of a statement that goes on, with none more
@@ -107,22 +107,22 @@ module _ (text : Bytes) (table : List ℕ) (reals : List Float) (room : Settings
   on-further : (W : AtWord text table reals room s len) (t : State) (xs : List Float) → On (suc (s .at + len)) (W .inv .above) (W .inv .phase) (reached text table reals room s len W) t xs → s .at < t .at
   on-further W t xs N = omega (arith, ap (λ (z : State). z .at) (N .is), at-is (suc (s .at + len)) (statements (W .inv .above)) (N .phase) (N .places))
 
-  pub did-go : (t : State) → Did (to.Going t) → Inv text table reals room t × (s .at < t .at)
+  did-go : (t : State) → Did (to.Going t) → Inv text table reals room t × (s .at < t .at)
   did-go t S = (goes-on text table reals room s len (S .stands) t [] reals (S .goes) refl (same-reals (S .stands)), on-further (S .stands) t [] (S .goes))
 
-  pub real-room : (x : Float) (t : State) → Did (to.Real t x) → s .used < length reals
+  real-room : (x : Float) (t : State) → Did (to.Real t x) → s .used < length reals
   real-room x t S = stores text table reals room s len (S .stands) t x (S .goes)
 
-  pub did-real : (x : Float) (t : State) (D : List Float) → Did (to.Real t x) → D ≡ set reals (s .used) x → Inv text table D room t × (s .at < t .at)
+  did-real : (x : Float) (t : State) (D : List Float) → Did (to.Real t x) → D ≡ set reals (s .used) x → Inv text table D room t × (s .at < t .at)
   did-real x t D S q = let m = one-more (S .stands) x D (real-room x t S) q in (goes-on text table reals room s len (S .stands) t (x ∷ []) D (S .goes) (m .0) (m .1), on-further (S .stands) t (x ∷ []) (S .goes))
 
-  pub did-complete : (t t′ : State) (T : List ℕ) → Did (to.Complete t) → T ≡ enteredIn text table (t .count) (t .draft) → length T ≡ length table → t′ ≡ between (t .at) (t .count + 1) (t .used) → Inv text T reals room t′ × (s .at < t′ .at)
+  did-complete : (t t′ : State) (T : List ℕ) → Did (to.Complete t) → T ≡ enteredIn text table (t .count) (t .draft) → length T ≡ length table → t′ ≡ between (t .at) (t .count + 1) (t .used) → Inv text T reals room t′ × (s .at < t′ .at)
   did-complete t t′ T S q l v = (goes-out text table reals room s len (S .stands) t [] (S .goes) T reals l refl (q ∙ entered text table reals room s len (S .stands) t [] (S .goes)) (same-reals (S .stands)) t′ v, omega (arith, ap (λ (z : State). z .at) v, S .goes .place))
 
-  pub last-room : (x : Float) (t : State) → Did (to.Last t x) → s .used < length reals
+  last-room : (x : Float) (t : State) → Did (to.Last t x) → s .used < length reals
   last-room x t S = omega (arith, used-list text table reals room s (S .stands .inv), length-append (realTable (S .stands .inv .above)) (openReals (S .stands .inv .phase)), reals-length (statements (S .stands .inv .above)), stores-last text table reals room s len (S .stands) t (x ∷ []) (S .goes), ap length (S .goes .reals), length-append (openReals (S .stands .inv .phase)) (x ∷ []))
 
-  pub did-last : (x : Float) (t t′ : State) (T : List ℕ) (D : List Float) → Did (to.Last t x) → D ≡ set reals (s .used) x → T ≡ enteredIn text table (t .count) (t .draft) → length T ≡ length table → t′ ≡ between (t .at) (t .count + 1) (t .used) → Inv text T D room t′ × (s .at < t′ .at)
+  did-last : (x : Float) (t t′ : State) (T : List ℕ) (D : List Float) → Did (to.Last t x) → D ≡ set reals (s .used) x → T ≡ enteredIn text table (t .count) (t .draft) → length T ≡ length table → t′ ≡ between (t .at) (t .count + 1) (t .used) → Inv text T D room t′ × (s .at < t′ .at)
   did-last x t t′ T D S p q l v = let m = one-more (S .stands) x D (last-room x t S) p in (goes-out text table reals room s len (S .stands) t (x ∷ []) (S .goes) T D l (m .0) (q ∙ entered text table reals room s len (S .stands) t (x ∷ []) (S .goes)) (m .1) t′ v, omega (arith, ap (λ (z : State). z .at) v, S .goes .place))
 
   ready-done : (step : Step) → Did step → Ready text table reals room s step

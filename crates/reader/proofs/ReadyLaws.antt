@@ -114,7 +114,7 @@ module _ (text : Bytes) (table : List ℕ) (reals : List Float) (room : Settings
   pub used-list : s .used ≡ length (realTable (I .above) ++ openReals (I .phase))
   used-list = used-is ∙ ap (λ (n : ℕ). n + length (openReals (I .phase))) (sym (reals-length (statements (I .above)))) ∙ sym (length-append (realTable (I .above)) (openReals (I .phase)))
 
-  pub used-room : (s .used ≤ length reals) × (s .used ≤ 4096)
+  used-room : (s .used ≤ length reals) × (s .used ≤ 4096)
   used-room = (omega (arith, used-is, room-at room (statements (I .above)) (I .phase) at-phase, reals-room), omega (arith, used-is, room-at room (statements (I .above)) (I .phase) at-phase, reals-room))
 
   finds : (w : Bytes) → latestIn text table w (s .count) ≡ latest w (statements (I .above))

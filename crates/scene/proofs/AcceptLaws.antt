@@ -154,7 +154,7 @@ read-inv r text es e = go (leb (length text) 65536) e
     go true q = (refl, finish-inv (length text) (run r initial (text ++ newline)) es q)
     go false q = let z : _≡_ {A = ℕ} 0 1 = cc in absurd (omega arith)
 
-pub read-of : (r : Settings) (text : Bytes) (g : Going) → leb (length text) 65536 ≡ true → run r initial (text ++ newline) ≡ going g → g .phase ≡ idle → read r text ≡ accepted (g .above)
+read-of : (r : Settings) (text : Bytes) (g : Going) → leb (length text) 65536 ≡ true → run r initial (text ++ newline) ≡ going g → g .phase ≡ idle → read r text ≡ accepted (g .above)
 unfolding read
 read-of r text g f e p = rw (f, e, p)
 

@@ -30,7 +30,7 @@ unfolding run
 run-stopped r n p [] = refl
 run-stopped r n p (b ∷ t) = run-stopped r n p t
 
-pub run-first : (r : Settings) (X : State) (a b : Bytes) (g : Going) → run r X (a ++ b) ≡ going g → (k : Going) × (run r X a ≡ going k) × (run r (going k) b ≡ going g)
+run-first : (r : Settings) (X : State) (a b : Bytes) (g : Going) → run r X (a ++ b) ≡ going g → (k : Going) × (run r X a ≡ going k) × (run r (going k) b ≡ going g)
 run-first r X a b g e = go (run r X a) refl
   where
     go : (Y : State) → run r X a ≡ Y → (k : Going) × (run r X a ≡ going k) × (run r (going k) b ≡ going g)
@@ -182,7 +182,7 @@ advance-since lo d r g (first b) o h = record { new = h .new; above = h .above; 
 advance-since lo d r g command o h = tt
 advance-since lo d r g (ended w) o h = settle-since lo d g h o (word r (g .phase) w) (test r (statements (g .above)) (g .phase) w)
 
-pub run-since : (r : Settings) (lo : ℕ) (d : List Entry) (t : Bytes) (X : State) → SinceS lo d X → SinceS lo d (run r X t)
+run-since : (r : Settings) (lo : ℕ) (d : List Entry) (t : Bytes) (X : State) → SinceS lo d X → SinceS lo d (run r X t)
 run-since r lo d = along r (SinceS lo d) (λ n p. tt) (advance-since lo d r)
 
 -- ---- statements that an edge cuts

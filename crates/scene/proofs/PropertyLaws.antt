@@ -82,7 +82,7 @@ module _ (D later : List Statement) (s : Statement) (earlier : List Statement) (
       ap (λ (x : List Statement). numbered x (suc (length earlier))) q ∙ numbered-low later (s ∷ earlier) (suc (length earlier)) (omega arith)
       ∙ rw (eq-eqb (suc (length earlier)) (suc (length earlier)) refl)
 
-  pub latest-below : (w : Bytes) (t : Statement) → definition w earlier ≡ some t → LatestBelow D (suc (length earlier)) w (latest w earlier)
+  latest-below : (w : Bytes) (t : Statement) → definition w earlier ≡ some t → LatestBelow D (suc (length earlier)) w (latest w earlier)
   latest-below w t e =
       let l = latest-le w earlier in
       let a = latest-there w earlier t e in
@@ -109,7 +109,7 @@ NoneLater w later d = (m : ℕ) (t : Statement) → length d < m → numbered (l
 abbrev pub FirstOrNone : Bytes → List Statement → List Statement → ℕ → Type 0
 FirstOrNone w later d k = ((k ≡ 0) × NoneLater w later d) ⊎ First w later d k
 
-pub first-or-none : (w : Bytes) (later d : List Statement) → FirstOrNone w later d (firstLater w later (length d))
+first-or-none : (w : Bytes) (later d : List Statement) → FirstOrNone w later d (firstLater w later (length d))
 unfolding firstLater numbered
 first-or-none w [] d = inl (refl, λ m t h e. (let r = numbered-range d m t e in absurd (omega arith)))
 first-or-none w (a ∷ later) d = go (firstLater w later (length d)) (first-or-none w later d) (hits w a) refl

@@ -50,12 +50,12 @@ abbrev pub Absent : Bytes → List Statement → Type 0
 Absent w [] = Unit {0}
 Absent w (s ∷ X) = (hits w s ≡ false) × Absent w X
 
-pub found-absent : (w : Bytes) (X Y : List Statement) → Absent w X → found w (X ++ Y) ≡ found w Y
+found-absent : (w : Bytes) (X Y : List Statement) → Absent w X → found w (X ++ Y) ≡ found w Y
 unfolding found
 found-absent w [] Y h = refl
 found-absent w (s ∷ X) Y h = rw (h .0) (found-absent w X Y (h .1))
 
-pub resolve-absent : (w : Bytes) (X Y : List Statement) → Absent w X → resolve w (X ++ Y) ≡ resolve w Y
+resolve-absent : (w : Bytes) (X Y : List Statement) → Absent w X → resolve w (X ++ Y) ≡ resolve w Y
 unfolding resolve
 resolve-absent w [] Y h = refl
 resolve-absent w (s ∷ X) Y h = rw (h .0) (resolve-absent w X Y (h .1))
@@ -276,10 +276,10 @@ module _ (P A B : List Statement) where
       shift-high (length P) (length A) (length B) (suc (m + length (B ++ (A ++ P)))) (omega arith) ∙ omega arith
 
   module _ (cab : Clear A B) (cba : Clear B A) where
-    pub up-A : (w : Bytes) → Absent w B → View new (A ++ P) (A ++ (B ++ P)) w
+    up-A : (w : Bytes) → Absent w B → View new (A ++ P) (A ++ (B ++ P)) w
     up-A w h = view-up new A P (B ++ P) numbers-A (targets new P (B ++ P) A (clear-sees new P (B ++ P) B base-A A cab)) w (base-A w h)
 
-    pub up-B : (w : Bytes) → Absent w A → View new (B ++ (A ++ P)) (B ++ P) w
+    up-B : (w : Bytes) → Absent w A → View new (B ++ (A ++ P)) (B ++ P) w
     up-B w h = view-up new B (A ++ P) P numbers-B (targets new (A ++ P) P B (clear-sees new (A ++ P) P A base-B B cba)) w (base-B w h)
 
     pub base-Q : (w : Bytes) → View new (B ++ (A ++ P)) (A ++ (B ++ P)) w

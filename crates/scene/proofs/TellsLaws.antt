@@ -73,7 +73,7 @@ source-tail s d = go (s .body)
     go (primitive t ss rs) = ([], refl)
     go (alias x) = tail-cons s (resolve x d) d (resolve-tail x d)
 
-pub tail-trans : (x l D d : List Statement) → D ≡ l ++ d → Tail x d → Tail x D
+tail-trans : (x l D d : List Statement) → D ≡ l ++ d → Tail x d → Tail x D
 tail-trans x l D d q (y, h) = (l ++ y, q ∙ ap {B = List Statement} (λ (z : List Statement). l ++ z) h ∙ sym (append-assoc l y x))
 
 pub tail-length : (x D : List Statement) → Tail x D → length x ≤ length D

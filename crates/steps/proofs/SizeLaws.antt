@@ -95,7 +95,7 @@ difference f (fin s m e) (fin t n d) p q a b g =
     (round-within f (less .sign) (more .sign) (less .size) C (A + B) C C-pos C-pos (mul-le-mul-right C (less .small)) (subst (λ (z : Float). T (finite z)) more-is g)))
 
 -- ---- the quotient of a size by one that is no smaller is at most 1
-pub one-is : (f : Format) → round f false 1 1 ≡ +1
+one-is : (f : Format) → round f false 1 1 ≡ +1
 unfolding round
 one-is binary32 = refl
 one-is binary64 = refl

@@ -39,7 +39,7 @@ neg-finite nan h = h
 neg-finite (inf s) h = h
 neg-finite (fin s m e) h = h
 
-pub sub-finite : (f : Format) (x y : Float) → T (finite (sub f x y)) → T (finite x) × T (finite y)
+sub-finite : (f : Format) (x y : Float) → T (finite (sub f x y)) → T (finite x) × T (finite y)
 unfolding sub
 sub-finite f x y h = (add-finite f x (neg y) h .0, neg-finite y (add-finite f x (neg y) h .1))
 

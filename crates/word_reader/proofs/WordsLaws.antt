@@ -145,7 +145,7 @@ unfolding wordsIn
 handed-out-is-words text most h = handed-from most text 0 (omega arith) (omega arith)
 
 -- none of them is empty
-abbrev pub hasByte : Word → Bool
+abbrev hasByte : Word → Bool
 hasByte w = ltb 0 (w .len)
 
 none-empty : (w : Word) (ws : List Word) → 0 < w .len → all hasByte ws ≡ true → all hasByte (w ∷ ws) ≡ true

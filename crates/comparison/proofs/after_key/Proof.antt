@@ -3,7 +3,7 @@ use mathlib.Core.List.{[]}
 use borrow.Author.Needs.{needs}
 use Rattle.keys.specs.Key.{nthOf}
 use Rattle.keys.specs.Rows.{sceneRows}
-use Rattle.comparison.proofs.HandLaws.{follows-none, follows-some}
+use Rattle.comparison.proofs.StepLaws.{follows-none, follows-some}
 use Rattle.comparison.proofs.after_key.Statement.{statement}
 use Rattle.comparison.proofs.after_key.Tie as tie
 
@@ -14,10 +14,14 @@ next-name-requires : tie.Need-next-name-requires
 next-name-requires c κs = search needs
 
 returns : tie.Need-returns
-returns c = follows-none (sceneRows (c .before .before .before .before .before .before .before .before .before .args .left .now) (c .before .before .before .before .before .before .before .before .before .args .left-records .now) []) (sceneRows (c .before .before .before .before .before .before .before .before .before .args .right .now) (c .before .before .before .before .before .before .before .before .before .args .right-records .now) []) (nthOf (c .before .before .before .before .before .before .before .before .before .args .name .now) (c .before .before .before .before .before .before .before .before .before .args .nth)) _ (c .before .before .before .at-key .ensures) (c .before .if1 .taken) _ (c .next-name .ensures)
+returns c =
+    let a = c .before .before .before .before .before .before .before .before .before .args in
+    follows-none (sceneRows (a .left .now) (a .left-records .now) []) (sceneRows (a .right .now) (a .right-records .now) []) (nthOf (a .name .now) (a .nth)) _ (c .before .before .before .at-key .ensures) (c .before .if1 .taken) _ (c .next-name .ensures)
 
 returns-2 : tie.Need-returns-2
-returns-2 c = follows-some (sceneRows (c .before .before .before .before .before .before .before .before .args .left .now) (c .before .before .before .before .before .before .before .before .args .left-records .now) []) (sceneRows (c .before .before .before .before .before .before .before .before .args .right .now) (c .before .before .before .before .before .before .before .before .args .right-records .now) []) (nthOf (c .before .before .before .before .before .before .before .before .args .name .now) (c .before .before .before .before .before .before .before .before .args .nth)) _ (c .before .before .at-key .ensures) (c .if1 .left)
+returns-2 c =
+    let a = c .before .before .before .before .before .before .before .before .args in
+    follows-some (sceneRows (a .left .now) (a .left-records .now) []) (sceneRows (a .right .now) (a .right-records .now) []) (nthOf (a .name .now) (a .nth)) _ (c .before .before .at-key .ensures) (c .if1 .left)
 
 pub after-key-spec : {M : Type 1} → statement M
 after-key-spec = tie.close (tie.spec at-key-requires next-name-requires returns returns-2)

@@ -2,7 +2,7 @@
 use mathlib.Core.List.{[]}
 use borrow.Author.Needs.{needs}
 use Rattle.keys.specs.Rows.{sceneRows}
-use Rattle.comparison.proofs.HandLaws.{follows-held}
+use Rattle.comparison.proofs.StepLaws.{follows-held}
 use Rattle.comparison.proofs.next_key.Statement.{statement}
 use Rattle.comparison.proofs.next_key.Tie as tie
 
@@ -31,10 +31,14 @@ after-key-requires-2 : tie.Need-after-key-requires-2
 after-key-requires-2 c κs = search needs
 
 returns : tie.Need-returns
-returns c = follows-held (sceneRows (c .before .before .before .before .before .before .before .before .before .before .args .left .now) (c .before .before .before .before .before .before .before .before .before .before .args .left-records .now) []) (sceneRows (c .before .before .before .before .before .before .before .before .before .before .args .right .now) (c .before .before .before .before .before .before .before .before .before .before .args .right-records .now) []) (c .before .before .before .before .before .before .before .before .before .before .args .from) _ _ _ _ (c .before .before .before .before .from .given .1) (c .before .before .key-name .ensures) (c .before .key-nth .ensures) (c .after-key .ensures)
+returns c =
+    let a = c .before .before .before .before .before .before .before .before .before .before .args in
+    follows-held (sceneRows (a .left .now) (a .left-records .now) []) (sceneRows (a .right .now) (a .right-records .now) []) (a .from) _ _ _ _ (c .before .before .before .before .from .given .1) (c .before .before .key-name .ensures) (c .before .key-nth .ensures) (c .after-key .ensures)
 
 returns-2 : tie.Need-returns-2
-returns-2 c = follows-held (sceneRows (c .before .before .before .before .before .before .before .before .before .before .args .left .now) (c .before .before .before .before .before .before .before .before .before .before .args .left-records .now) []) (sceneRows (c .before .before .before .before .before .before .before .before .before .before .args .right .now) (c .before .before .before .before .before .before .before .before .before .before .args .right-records .now) []) (c .before .before .before .before .before .before .before .before .before .before .args .from) _ _ _ _ (c .before .before .before .before .from2 .given .1) (c .before .before .key-name2 .ensures) (c .before .key-nth2 .ensures) (c .after-key2 .ensures)
+returns-2 c =
+    let a = c .before .before .before .before .before .before .before .before .before .before .args in
+    follows-held (sceneRows (a .left .now) (a .left-records .now) []) (sceneRows (a .right .now) (a .right-records .now) []) (a .from) _ _ _ _ (c .before .before .before .before .from2 .given .1) (c .before .before .key-name2 .ensures) (c .before .key-nth2 .ensures) (c .after-key2 .ensures)
 
 pub next-key-spec : {M : Type 1} → statement M
 next-key-spec =

@@ -3,12 +3,12 @@ use mathlib.Core.List.{List}
 use mathlib.Core.Path.{_≡_, refl, ap, sym, _∙_}
 use borrow.Author.Needs.{needs}
 use lib.ListN.{length}
+use Rattle.keys.specs.After.{after}
 use Rattle.keys.specs.Key.{keysOf}
-use Rattle.keys.specs.Next.{after}
 use Rattle.keys.specs.Rows.{sceneRows}
 use Rattle.scene.specs.Told.{Told}
-use Rattle.comparison.proofs.HandLaws.{answer-line, answer-none, fewer, lines-same}
-use Rattle.comparison.specs.Hand.{firstLine, keyIn, linesAfter}
+use Rattle.comparison.proofs.LineLaws.{answer-line, answer-none, fewer, lines-same}
+use Rattle.comparison.specs.NextLine.{firstLine, keyIn, linesAfter}
 use Rattle.comparison.proofs.next_line.Statement.{statement}
 use Rattle.comparison.proofs.next_line.Tie as tie
 
@@ -24,12 +24,16 @@ abbrev μ-loop : tie.MeasureT-loop
     let r = sceneRows right right-records right-reals in
     length (after (keyIn l r at) (keysOf l r))
 
--- the rows of both scenes
-abbrev left-rows : tie.Start Inv-loop μ-loop → List Told
-left-rows s = sceneRows (s .args .left .now) (s .args .left-records .now) (s .args .left-reals .now)
+-- the rows of both scenes, at the head of the loop
+abbrev left-rows : tie.At-loop Inv-loop μ-loop → List Told
+left-rows c =
+    let a = c .before .before .before .before .before .before .before .args in
+    sceneRows (a .left .now) (a .left-records .now) (a .left-reals .now)
 
-abbrev right-rows : tie.Start Inv-loop μ-loop → List Told
-right-rows s = sceneRows (s .args .right .now) (s .args .right-records .now) (s .args .right-reals .now)
+abbrev right-rows : tie.At-loop Inv-loop μ-loop → List Told
+right-rows c =
+    let a = c .before .before .before .before .before .before .before .args in
+    sceneRows (a .right .now) (a .right-records .now) (a .right-reals .now)
 
 loop-holds : tie.Need-loop-holds Inv-loop μ-loop
 loop-holds c = refl
@@ -41,22 +45,22 @@ enum-told : tie.Need-enum-told Inv-loop μ-loop
 enum-told c = search needs
 
 returns : tie.Need-returns Inv-loop μ-loop
-returns c = answer-none (left-rows (c .before .before .before .before .before .before .before .before .before .before)) (right-rows (c .before .before .before .before .before .before .before .before .before .before)) _ (sym (c .enum-told .given .1) ∙ c .before .before .next-step .ensures) ∙ ap (firstLine (left-rows (c .before .before .before .before .before .before .before .before .before .before)) (right-rows (c .before .before .before .before .before .before .before .before .before .before))) (sym (c .before .before .before .loop .inv))
+returns c = answer-none (left-rows (c .before .before .before)) (right-rows (c .before .before .before)) _ (sym (c .enum-told .given .1) ∙ c .before .before .next-step .ensures) ∙ ap (firstLine (left-rows (c .before .before .before)) (right-rows (c .before .before .before))) (sym (c .before .before .before .loop .inv))
 
 enum-known-p : tie.Need-enum-known-p Inv-loop μ-loop
 enum-known-p c = search needs
 
 loop-less : tie.Need-loop-less Inv-loop μ-loop
-loop-less c = fewer (left-rows (c .before .before .before .before .before .before .before .before .before .before .before)) (right-rows (c .before .before .before .before .before .before .before .before .before .before .before)) _ (c .before .p .given .0 .0) (sym (c .before .p .given .1) ∙ c .before .before .before .next-step .ensures)
+loop-less c = fewer (left-rows (c .before .before .before .before)) (right-rows (c .before .before .before .before)) _ (c .before .p .given .0 .0) (sym (c .before .p .given .1) ∙ c .before .before .before .next-step .ensures)
 
 loop-again : tie.Need-loop-again Inv-loop μ-loop
-loop-again c = c .before .before .before .before .loop .inv ∙ lines-same (left-rows (c .before .before .before .before .before .before .before .before .before .before .before)) (right-rows (c .before .before .before .before .before .before .before .before .before .before .before)) _ (c .before .p .given .0 .0) (sym (c .before .p .given .1) ∙ c .before .before .before .next-step .ensures)
+loop-again c = c .before .before .before .before .loop .inv ∙ lines-same (left-rows (c .before .before .before .before)) (right-rows (c .before .before .before .before)) _ (c .before .p .given .0 .0) (sym (c .before .p .given .1) ∙ c .before .before .before .next-step .ensures)
 
 enum-known-p-2 : tie.Need-enum-known-p-2 Inv-loop μ-loop
 enum-known-p-2 c = search needs
 
 returns-2 : tie.Need-returns-2 Inv-loop μ-loop
-returns-2 c = answer-line (left-rows (c .before .before .before .before .before .before .before .before .before .before .before)) (right-rows (c .before .before .before .before .before .before .before .before .before .before .before)) _ _ _ _ (sym (c .before .p2 .given .1) ∙ c .before .before .before .next-step .ensures) ∙ ap (firstLine (left-rows (c .before .before .before .before .before .before .before .before .before .before .before)) (right-rows (c .before .before .before .before .before .before .before .before .before .before .before))) (sym (c .before .before .before .before .loop .inv))
+returns-2 c = answer-line (left-rows (c .before .before .before .before)) (right-rows (c .before .before .before .before)) _ _ _ _ (sym (c .before .p2 .given .1) ∙ c .before .before .before .next-step .ensures) ∙ ap (firstLine (left-rows (c .before .before .before .before)) (right-rows (c .before .before .before .before))) (sym (c .before .before .before .before .loop .inv))
 
 pub next-line-spec : {M : Type 1} → statement M
 next-line-spec =

@@ -37,7 +37,9 @@ part-result-end c = search needs
 
 returns : tie.Need-returns
 unfolding recordIn
-returns c = cut-reals (c .before .before .before .before .before .before .before .args .reals .now) (c .before .before .before .before .before .before .before .args .records .now) (c .before .before .before .before .before .before .before .args .n) _ _ _ _ (c .before .before .before .before .number .ensures) (c .before .before .before .number2 .ensures) (c .before .before .least .ensures) (c .before .least2 .ensures)
+returns c =
+    let a = c .before .before .before .before .before .before .before .args in
+    cut-reals (a .reals .now) (a .records .now) (a .n) _ _ _ _ (c .before .before .before .before .number .ensures) (c .before .before .before .number2 .ensures) (c .before .before .least .ensures) (c .before .least2 .ensures)
 
 pub reals-of-spec : {M : Type 1} → statement M
 reals-of-spec =

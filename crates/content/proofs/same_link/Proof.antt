@@ -1,9 +1,6 @@
 -- `content::same_link` meets its contract.
-use mathlib.Core.List.{[]}
-use mathlib.Core.Path.{_∙_}
 use borrow.Author.Needs.{needs}
-use Rattle.keys.specs.Key.{keyOf, sameKey}
-use Rattle.keys.specs.Rows.{sceneRows}
+use Rattle.content.proofs.ContentLaws.{links-lead}
 use Rattle.content.proofs.same_link.Statement.{statement}
 use Rattle.content.proofs.same_link.Tie as tie
 
@@ -17,7 +14,9 @@ same-key-requires : tie.Need-same-key-requires
 same-key-requires c κs = search needs
 
 returns : tie.Need-returns
-returns c = c .same-key .ensures ∙ (λ i. sameKey (keyOf (sceneRows (c .before .before .before .before .before .before .before .args .a .now) (c .before .before .before .before .before .before .before .args .a-records .now) []) (c .before .before .number .ensures i)) (keyOf (sceneRows (c .before .before .before .before .before .before .before .args .b .now) (c .before .before .before .before .before .before .before .args .b-records .now) []) (c .before .number2 .ensures i)))
+returns c =
+    let a = c .before .before .before .before .before .before .before .args in
+    links-lead (a .a .now) (a .a-records .now) (a .b .now) (a .b-records .now) _ _ _ _ _ (c .before .before .number .ensures) (c .before .number2 .ensures) (c .same-key .ensures)
 
 pub same-link-spec : {M : Type 1} → statement M
 same-link-spec = tie.close (tie.spec number-requires number-requires-2 same-key-requires returns)

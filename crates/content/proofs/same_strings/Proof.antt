@@ -13,7 +13,9 @@ number-requires-2 c κs = search needs
 
 returns : tie.Need-returns
 unfolding recordIn
-returns c = strings-count (c .before .before .before .before .before .before .before .args .a .now) (c .before .before .before .before .before .before .before .args .a-records .now) (c .before .before .before .before .before .before .before .args .m) (c .before .before .before .before .before .before .before .args .b .now) (c .before .before .before .before .before .before .before .args .b-records .now) (c .before .before .before .before .before .before .before .args .n) _ _ (c .before .before .number .ensures) (c .before .number2 .ensures) (c .if1 .taken)
+returns c =
+    let a = c .before .before .before .before .before .before .before .args in
+    strings-count (a .a .now) (a .a-records .now) (a .m) (a .b .now) (a .b-records .now) (a .n) _ _ (c .before .before .number .ensures) (c .before .number2 .ensures) (c .if1 .taken)
 
 number-requires-3 : tie.Need-number-requires-3
 number-requires-3 c κs = search needs
@@ -26,7 +28,10 @@ same-words-requires c κs = search needs
 
 returns-2 : tie.Need-returns-2
 unfolding recordIn
-returns-2 c = strings-words (c .before .before .before .before .before .before .before .before .before .before .args .a .now) (c .before .before .before .before .before .before .before .before .before .before .args .a-records .now) (c .before .before .before .before .before .before .before .before .before .before .args .m) (c .before .before .before .before .before .before .before .before .before .before .args .b .now) (c .before .before .before .before .before .before .before .before .before .before .args .b-records .now) (c .before .before .before .before .before .before .before .before .before .before .args .n) _ _ (c .before .before .before .before .before .number .ensures) (c .before .before .before .before .number2 .ensures) _ _ _ (c .before .before .before .if1 .left) (c .before .before .number3 .ensures) (c .before .number4 .ensures) (c .same-words .ensures)
+returns-2 c =
+    let at-if1 = c .before .before .before in
+    let a = at-if1 .before .before .before .before .before .before .before .args in
+    strings-words (a .a .now) (a .a-records .now) (a .m) (a .b .now) (a .b-records .now) (a .n) _ _ (at-if1 .before .before .number .ensures) (at-if1 .before .number2 .ensures) _ _ _ (at-if1 .if1 .left) (c .before .before .number3 .ensures) (c .before .number4 .ensures) (c .same-words .ensures)
 
 pub same-strings-spec : {M : Type 1} → statement M
 same-strings-spec =

@@ -38,10 +38,17 @@ loop-less : tie.Need-loop-less Inv-loop μ-loop
 loop-less c = search needs
 
 loop-again : tie.Need-loop-again Inv-loop μ-loop
-loop-again c = words-step (c .before .before .before .before .before .before .before .before .before .before .args .a .now) (c .before .before .before .before .before .before .before .before .before .before .args .b .now) (c .before .before .before .before .before .before .before .loop .p) (c .before .before .before .before .before .before .before .loop .q) _ _ _ (c .before .before .before .before .before .word-bytes .ensures) (c .before .before .before .before .word-bytes2 .ensures) (c .before .before .before .same .ensures) (c .before .before .before .before .before .before .before .loop .left) _ _ (c .before .before .before .before .before .before .loop-test .taken) (c .before .before .if1 .taken) (c .before .past-word .ensures) (c .past-word2 .ensures) ∙ c .before .before .before .before .before .before .before .loop .inv
+loop-again c =
+    let at-same = c .before .before .before in
+    let at-loop = at-same .before .before .before .before in
+    let a = at-loop .before .before .before .args in
+    words-step (a .a .now) (a .b .now) (at-loop .loop .p) (at-loop .loop .q) _ _ _ (at-same .before .before .word-bytes .ensures) (at-same .before .word-bytes2 .ensures) (at-same .same .ensures) (at-loop .loop .left) _ _ (at-same .before .before .before .loop-test .taken) (c .before .before .if1 .taken) (c .before .past-word .ensures) (c .past-word2 .ensures) ∙ at-loop .loop .inv
 
 returns : tie.Need-returns Inv-loop μ-loop
-returns c = sym (words-stop (c .before .before .before .before .before .before .before .before .args .a .now) (c .before .before .before .before .before .before .before .before .args .b .now) (c .before .before .before .before .before .loop .p) (c .before .before .before .before .before .loop .q) _ _ _ (c .before .before .before .word-bytes .ensures) (c .before .before .word-bytes2 .ensures) (c .before .same .ensures) (c .before .before .before .before .before .loop .left) (c .before .before .before .before .loop-test .taken) (c .if1 .left)) ∙ c .before .before .before .before .before .loop .inv
+returns c =
+    let at-loop = c .before .before .before .before .before in
+    let a = at-loop .before .before .before .args in
+    sym (words-stop (a .a .now) (a .b .now) (at-loop .loop .p) (at-loop .loop .q) _ _ _ (c .before .before .before .word-bytes .ensures) (c .before .before .word-bytes2 .ensures) (c .before .same .ensures) (at-loop .loop .left) (c .before .before .before .before .loop-test .taken) (c .if1 .left)) ∙ at-loop .loop .inv
 
 returns-2 : tie.Need-returns-2 Inv-loop μ-loop
 returns-2 c = sym (words-end (c .before .before .before .before .args .a .now) (c .before .before .before .before .args .b .now) (c .before .loop .p) (c .before .loop .q) (c .before .loop .left) (c .loop-test .left)) ∙ c .before .loop .inv

@@ -13,13 +13,17 @@ part-requires : tie.Need-part-requires
 part-requires c κs = search needs
 
 returns : tie.Need-returns
-returns c = c .part .ensures ∙ sym (ap (λ (k : Key). k .name) (key-none (c .before .before .before .before .before .args .text .now) (c .before .before .before .before .before .args .records .now) (c .before .before .before .before .before .args .n) _ (c .before .before .within .ensures) (c .before .if1 .taken)))
+returns c =
+    let a = c .before .before .before .before .before .args in
+    c .part .ensures ∙ sym (ap (λ (k : Key). k .name) (key-none (a .text .now) (a .records .now) (a .n) _ (c .before .before .within .ensures) (c .before .if1 .taken)))
 
 name-of-requires : tie.Need-name-of-requires
 name-of-requires c κs = search needs
 
 returns-2 : tie.Need-returns-2
-returns-2 c = c .name-of .ensures ∙ key-name (c .before .before .before .before .before .args .text .now) (c .before .before .before .before .before .args .records .now) (c .before .before .before .before .before .args .n) _ (c .before .before .within .ensures) (c .before .if1 .left)
+returns-2 c =
+    let a = c .before .before .before .before .before .args in
+    c .name-of .ensures ∙ key-name (a .text .now) (a .records .now) (a .n) _ (c .before .before .within .ensures) (c .before .if1 .left)
 
 pub key-name-spec : {M : Type 1} → statement M
 key-name-spec =

@@ -11,7 +11,9 @@ within-requires : tie.Need-within-requires
 within-requires c κs = search needs
 
 returns : tie.Need-returns
-returns c = sym (ap (λ (k : Key). k .nth) (key-none (c .before .before .before .before .args .text .now) (c .before .before .before .before .args .records .now) (c .before .before .before .before .args .n) _ (c .before .within .ensures) (c .if1 .taken)))
+returns c =
+    let a = c .before .before .before .before .args in
+    sym (ap (λ (k : Key). k .nth) (key-none (a .text .now) (a .records .now) (a .n) _ (c .before .within .ensures) (c .if1 .taken)))
 
 sub-times : tie.Need-sub-times
 sub-times c = search needs
@@ -23,10 +25,14 @@ times-requires : tie.Need-times-requires
 times-requires c κs = search needs
 
 add-result : tie.Need-add-result
-add-result c = omega (arith, count-most (c .before .before .before .before .before .before .args .text .now) (c .before .before .before .before .before .before .args .records .now) _ _ _ (c .times .ensures), c .before .before .if1 .left)
+add-result c =
+    let a = c .before .before .before .before .before .before .args in
+    omega (arith, count-most (a .text .now) (a .records .now) _ _ _ (c .times .ensures), c .before .before .if1 .left)
 
 returns-2 : tie.Need-returns-2
-returns-2 c = key-count (c .before .before .before .before .before .before .args .text .now) (c .before .before .before .before .before .before .args .records .now) (c .before .before .before .before .before .before .args .n) _ (c .before .before .before .within .ensures) _ _ (c .before .before .if1 .left) (c .before .name-of .ensures) (c .times .ensures)
+returns-2 c =
+    let a = c .before .before .before .before .before .before .args in
+    key-count (a .text .now) (a .records .now) (a .n) _ (c .before .before .before .within .ensures) _ _ (c .before .before .if1 .left) (c .before .name-of .ensures) (c .times .ensures)
 
 pub key-nth-spec : {M : Type 1} → statement M
 key-nth-spec =

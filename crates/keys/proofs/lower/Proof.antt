@@ -34,7 +34,11 @@ shared-slice-read-result-2 : tie.Need-shared-slice-read-result-2 Inv-loop μ-loo
 shared-slice-read-result-2 c = search needs
 
 returns-2 : tie.Need-returns-2 Inv-loop μ-loop
-returns-2 c = sym (lower-differs (c .before .before .before .before .before .before .before .before .args .a .now) (c .before .before .before .before .before .before .before .before .args .b .now) (c .before .before .before .before .before .before .before .loop .i) (c .before .before .before .before .before .before .loop-test .taken) (c .before .before .before .before .before .if1 .left) (c .before .before .if2 .taken)) ∙ c .before .before .before .before .before .before .before .loop .inv .1
+returns-2 c =
+    let at-if1 = c .before .before .before .before .before in
+    let at-loop = at-if1 .before .before in
+    let a = at-loop .before .args in
+    sym (lower-differs (a .a .now) (a .b .now) (at-loop .loop .i) (at-if1 .before .loop-test .taken) (at-if1 .if1 .left) (c .before .before .if2 .taken)) ∙ at-loop .loop .inv .1
 
 add-i : tie.Need-add-i Inv-loop μ-loop
 add-i c = search needs
@@ -43,7 +47,10 @@ loop-less : tie.Need-loop-less Inv-loop μ-loop
 loop-less c = search needs
 
 loop-again : tie.Need-loop-again Inv-loop μ-loop
-loop-again c = (search needs, lower-step (c .before .before .before .before .before .before .args .a .now) (c .before .before .before .before .before .before .args .b .now) (c .before .before .before .before .before .loop .i) (c .before .before .before .before .loop-test .taken) (c .before .before .before .if1 .left) (c .if2 .left) ∙ c .before .before .before .before .before .loop .inv .1)
+loop-again c =
+    let at-loop = c .before .before .before .before .before in
+    let a = at-loop .before .args in
+    (search needs, lower-step (a .a .now) (a .b .now) (at-loop .loop .i) (c .before .before .before .before .loop-test .taken) (c .before .before .before .if1 .left) (c .if2 .left) ∙ at-loop .loop .inv .1)
 
 returns-3 : tie.Need-returns-3 Inv-loop μ-loop
 returns-3 c = sym (lower-end (c .before .before .args .a .now) (c .before .before .args .b .now) (c .before .loop .i) (omega arith)) ∙ c .before .loop .inv .1

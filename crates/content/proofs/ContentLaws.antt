@@ -7,19 +7,20 @@ use native.Mathlib.Omega.{arith}
 use borrow.Author.Tests.{eq-eqb, ne-eqb}
 use lib.Dec.{eqb}
 use lib.Ieee.{Float, binary64, toBits}
-use lib.ListN.{length, take, drop, length-drop}
+use lib.ListN.{length, take, drop}
+use Rattle.bits.proofs.BitsLaws.{reals-same}
 use Rattle.bits.specs.Bits.{sameReals}
 use Rattle.keys.proofs.OrderLaws.{eqb-sym, same-sym, key-same, key-sym}
 use Rattle.keys.proofs.ScanLaws.{key-bare}
 use Rattle.keys.specs.Key.{keyOf, sameKey}
 use Rattle.keys.specs.Rows.{sceneRows}
 use Rattle.laws.proofs.BytesLaws.{same-refl}
-use Rattle.laws.proofs.ListLaws.{drop-min, take-min}
+use Rattle.laws.proofs.ListLaws.{cut-part}
 use Rattle.laws.specs.Bytes.{Bytes, same}
 use Rattle.lexer.specs.Word.{wordBytes, wordEnd}
 use Rattle.scene.specs.Record.{recordIn}
-use Rattle.scene.specs.Told.{tells, wordsFrom}
-use Rattle.content.specs.Content.{Content, contentIn, realsOf, sameContent, sameWords, stringsOf}
+use Rattle.scene.specs.Told.{tells, wordsFrom, realsOf, stringsOf}
+use Rattle.content.specs.Content.{Content, contentIn, sameContent, sameWords}
 
 -- ---- equal content
 
@@ -27,11 +28,6 @@ words-same : (ws : List Bytes) → sameWords ws ws ≡ true
 unfolding sameWords
 words-same [] = refl
 words-same (w ∷ ws) = rw (same-refl w) (words-same ws)
-
-reals-same : (xs : List Float) → sameReals xs xs ≡ true
-unfolding sameReals
-reals-same [] = refl
-reals-same (x ∷ xs) = rw (eq-eqb (toBits binary64 x) (toBits binary64 x) refl) (reals-same xs)
 
 pub content-same : (c : Content) → sameContent c c ≡ true
 unfolding sameContent
@@ -89,10 +85,7 @@ words-count a b i j (suc n) (suc m) h = rw (words-count a b (wordEnd a i) (wordE
 
 -- reals whose start and count are cut to what the table has
 pub cut-reals : (reals : List Float) (records : List ℕ) (n first many start size : ℕ) → first ≡ recordIn records n .real → many ≡ recordIn records n .reals → start ≡ min first (length reals) → size ≡ min many (length reals - start) → take (start + size - start) (drop start reals) ≡ realsOf reals (recordIn records n)
-cut-reals reals records n first many start size f m s e =
-    let d : drop start reals ≡ drop first reals = ap (λ (k : ℕ). drop k reals) s ∙ drop-min first reals in
-    let q : start + size - start ≡ min many (length (drop start reals)) = omega (arith, length-drop start reals) in
-    ap (λ (k : ℕ). take k (drop start reals)) q ∙ take-min many (drop start reals) ∙ ap (take many) d ∙ (λ i. take (m i) (drop (f i) reals))
+cut-reals reals records n first many start size f m s e = cut-part reals first many start size s e ∙ (λ i. take (m i) (drop (f i) reals))
 
 -- ---- what two primitives are
 

@@ -4,20 +4,12 @@ use mathlib.Core.List.{List, [], _∷_}
 use Prim.Native.Nat.{ℕ}
 use lib.Dec.{eqb}
 use lib.Ieee.{Float}
-use lib.ListN.{take, drop}
 use Rattle.bits.specs.Bits.{sameReals}
 use Rattle.keys.specs.Key.{Key, keyOf, sameKey}
 use Rattle.keys.specs.Rows.{sceneRows}
 use Rattle.laws.specs.Bytes.{Bytes, same}
-use Rattle.scene.specs.Record.{Record, recordIn}
-use Rattle.scene.specs.Told.{Told, tells, wordsFrom}
-
--- the strings and the reals of a record
-abbrev pub stringsOf : Bytes → Record → List Bytes
-stringsOf text r = wordsFrom text (r .string) (r .strings)
-
-abbrev pub realsOf : List Float → Record → List Float
-realsOf reals r = take (r .reals) (drop (r .real) reals)
+use Rattle.scene.specs.Record.{recordIn}
+use Rattle.scene.specs.Told.{Told, tells}
 
 -- what a primitive is: its type, strings and reals, and the keys of its alias target and its modifier
 pub record Content : Type 0 where

@@ -2,10 +2,9 @@
 -- 2, above 0.
 use mathlib.Core.Bool.{Bool, true, false, not, _&&_, _||_, true≢false}
 use mathlib.Core.List.{List, [], _∷_, map}
-use mathlib.Core.Logic.{_⊎_, inl, inr}
 use mathlib.Core.Path.{_≡_, refl, sym, ap, _∙_}
 use Prim.Native.Nat.{ℕ, suc, _+_, _≤_, _<_}
-use borrow.Author.Tests.{eq-eqb, le-leb, le-ltb, lt-leb, ne-eqb}
+use borrow.Author.Tests.{eq-eqb, eqb-true, ne-eqb, not-true}
 use native.Mathlib.Numerals.{add-one}
 use lib.Dec.{T, leb, ltb, eqb}
 use lib.Ieee.{Float, lt}
@@ -13,7 +12,7 @@ use lib.Ieee.Bits.{is-true}
 use lib.Ieee.Fits.{and-l, and-r}
 use lib.ListN.{drop, getD, drop-of-length-le, List·getD-map}
 use lib.Seq.{drop-cons}
-use Rattle.laws.proofs.NatLaws.{le-or-lt}
+use Rattle.laws.proofs.BoolLaws.{not-both}
 use Rattle.laws.specs.Table.{ruled}
 use Rattle.laws.specs.Bytes.{same}
 use Rattle.scene.specs.HouseRules as rules
@@ -56,39 +55,27 @@ module _ (n : ℕ) (x y z : Float) where
         unfolding houseRule
         asks-not-all-0 d = rw (ne-eqb n 0 a, ne-eqb n 1 b, ne-eqb n 2 c, ne-eqb n 3 d)
 
--- ---- the reals with rules are the third to the eighth
+-- ---- reals with no rule: the first two, those past the eighth, and those of a polygon and of the types from light to trans
 
-inside : ℕ → Bool
-inside k = leb 3 k && leb k 8
+abbrev skipped : (t k : ℕ) → Bool
+skipped t k = ltb k 3 || ltb 8 k || eqb t 4 || (leb 10 t && leb t 17)
 
-other-real : (j k : ℕ) → inside j ≡ true → inside k ≡ false → eqb j k ≡ false
-unfolding inside
-other-real j k h g = ne-eqb j k (λ e. true≢false (sym h ∙ ap (λ (n : ℕ). leb 3 n && leb n 8) e ∙ g))
+other-real : (t k m j : ℕ) → skipped t k ≡ false → skipped m j ≡ true → (eqb t m && eqb k j) ≡ false
+other-real t k m j h g = not-both (eqb t m) (eqb k j) (λ a b. true≢false (sym g ∙ (λ i. skipped (sym (eqb-true t m a) i) (sym (eqb-true k j b) i)) ∙ h))
 
-no-breach : (hs : List rules.House) (i t k : ℕ) (x y z : Float) → T (ruled (λ n (h : rules.House). inside (h .real)) i hs) → inside k ≡ false → breachAt hs t k x y z ≡ false
+abbrev has-rule : ℕ → rules.House → Bool
+has-rule n h = not (skipped (h .type) (h .real))
+
+no-breach : (hs : List rules.House) (i t k : ℕ) (x y z : Float) → T (ruled has-rule i hs) → skipped t k ≡ true → breachAt hs t k x y z ≡ false
 unfolding breachAt
 no-breach [] i t k x y z r g = refl
 no-breach (h ∷ hs) i t k x y z r g =
-    let e = other-real (h .real) k (is-true (inside (h .real)) (and-l (inside (h .real)) (ruled (λ n (u : rules.House). inside (u .real)) (suc i) hs) r)) g in
-    let f = no-breach hs (suc i) t k x y z (and-r (inside (h .real)) (ruled (λ n (u : rules.House). inside (u .real)) (suc i) hs) r) g in
-    simp (e, f) (go (eqb (h .type) t))
-  where
-    go : (b : Bool) → (b && false && rules.breaks (h .rule) x y z || false) ≡ false
-    go true = refl
-    go false = refl
+    let e = other-real (h .type) (h .real) t k (not-true (skipped (h .type) (h .real)) (is-true (has-rule i h) (and-l (has-rule i h) (ruled has-rule (suc i) hs) r))) g in
+    rw (e, no-breach hs (suc i) t k x y z (and-r (has-rule i h) (ruled has-rule (suc i) hs) r) g)
 
-outside : (k : ℕ) → (ltb k 3 || ltb 8 k) ≡ true → inside k ≡ false
-unfolding inside
-outside k h = go (le-or-lt 3 k) (le-or-lt k 8)
-  where
-    go : (3 ≤ k) ⊎ (k < 3) → (k ≤ 8) ⊎ (8 < k) → (leb 3 k && leb k 8) ≡ false
-    go (inr a) q = rw (lt-leb 3 k a)
-    go (inl a) (inr b) = rw (le-leb 3 k a, lt-leb k 8 b)
-    go (inl a) (inl b) = absurd (true≢false (sym h ∙ (λ i. le-ltb k 3 a i || le-ltb 8 k b i)))
-
-pub no-rule : (t k : ℕ) (x y z : Float) → (ltb k 3 || ltb 8 k) ≡ true → false ≡ breachAt houseRules t k x y z
-unfolding inside
-no-rule t k x y z h = sym (no-breach houseRules 0 t k x y z tt (outside k h))
+pub no-rule : (t k : ℕ) (x y z : Float) → skipped t k ≡ true → false ≡ breachAt houseRules t k x y z
+unfolding typeNumber numberFrom same
+no-rule t k x y z h = sym (no-breach houseRules 0 t k x y z tt h)
 
 -- past the last rule, at a rule that is broken, and past one that is not
 module _ (t k : ℕ) (x y z : Float) (i : ℕ) where

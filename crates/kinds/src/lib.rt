@@ -138,6 +138,8 @@ const SPHERE: u32 = 2;
 
 const BUBBLE: u32 = 3;
 
+const POLYGON: u32 = 4;
+
 const CONE: u32 = 5;
 
 const CUP: u32 = 6;
@@ -147,6 +149,10 @@ const CYLINDER: u32 = 7;
 const TUBE: u32 = 8;
 
 const RING: u32 = 9;
+
+const LIGHT: u32 = 10;
+
+const TRANS: u32 = 17;
 
 const PLASTIC2: u32 = 18;
 
@@ -360,11 +366,12 @@ fn breaks_house(house: u32, t: u32, count: u32, x: f64, previous: f64, first: f6
     breaks(house % 10, x, previous, first)
 }
 
-// Whether real number `count` of a type, after `previous` and before that `first`, breaks a house rule.
+// Whether real number `count` of a type, after `previous` and before that `first`, breaks a house rule. Most reals have none: they
+// are passed over before the table.
 pub fn breaches(t: u32, count: u32, x: f64, previous: f64, first: f64) -> bool
     ensures { λ r. ⌜ r ≡ breachAt houseRules t count x previous first ⌝ }
 {
-    if (count < 3) | (8 < count) {
+    if (count < 3) | (8 < count) | (t == POLYGON) | ((LIGHT <= t) & (t <= TRANS)) {
         return false;
     }
     let houses = HOUSES; // laid out once

@@ -27,6 +27,13 @@ wordsFrom text at (suc n) =
     let w = wordAt text at in
     part text (w .place) (w .len) ∷ wordsFrom text (w .place + w .len) n
 
+-- the strings and the reals of a record
+abbrev pub stringsOf : Bytes → Record → List Bytes
+stringsOf text r = wordsFrom text (r .string) (r .strings)
+
+abbrev pub realsOf : List Float → Record → List Float
+realsOf reals r = take (r .reals) (drop (r .real) reals)
+
 -- what a text, the table of reals and a record say
 unfoldable pub tells : Bytes → List Float → Record → Told
 tells text reals r = record {
@@ -35,9 +42,9 @@ tells text reals r = record {
   target = r .target;
   name = part text (r .name) (r .nameLength);
   stringCount = r .strings;
-  strings = wordsFrom text (r .string) (r .strings);
+  strings = stringsOf text r;
   realCount = r .reals;
-  reals = take (r .reals) (drop (r .real) reals);
+  reals = realsOf reals r;
   next = r .next;
 }
 

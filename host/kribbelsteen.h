@@ -1,11 +1,14 @@
-/* Kribbelsteen: a verified reader of Radiance scene texts, ray hits and Fresnel values.
+/* Kribbelsteen: a verified reader of Radiance scene texts, two saves compared, scenes written out, ray hits and Fresnel values.
  *
  * Link with libkribbelsteen.a. The functions keep nothing between calls, allocate nothing and may be called by several threads
  * at once, each on memory of its own.
  *
  * Every pointer leads to as many elements as its length or its array type says, is aligned for them and is not NULL, also where
  * the length is 0. What a call writes overlaps nothing else that it is given. Beyond that every input is allowed: whatever the
- * bytes and numbers are, a call ends and answers as written here, and it always writes the whole of its `answer`.
+ * bytes and numbers are, a call ends and answers as written here, and it always writes the whole of its `answer` or `line`.
+ *
+ * A table that "may hold anything" need not come from a reading: its entries may be any numbers, NaN and infinities among the
+ * reals. What a call uses of it is tested first, nothing outside the lent memory is touched, and the call says what it makes of it.
  *
  * Places are counted in bytes from the text's start, from 0. Primitives are numbered from 1, and 0 stands for none. */
 #ifndef KRIBBELSTEEN_H
@@ -42,7 +45,7 @@ enum kribbelsteen_field {
 /* Why something is refused. */
 enum kribbelsteen_reason {
     KRIBBELSTEEN_ACCEPTED = 0,
-    /* kribbelsteen_read; in brackets the place that is answered */
+    /* kribbelsteen_read, _read_both and _write; in brackets the place that is answered */
     KRIBBELSTEEN_TEXT_TOO_LONG = 1,     /* text over 65,536 bytes (0) */
     KRIBBELSTEEN_BAD_BYTE = 2,          /* a word with a byte outside 33 to 126 (the word) */
     KRIBBELSTEEN_WORD_TOO_LONG = 3,     /* a word over 64 bytes (the word) */
@@ -65,8 +68,17 @@ enum kribbelsteen_reason {
     KRIBBELSTEEN_ALLOWANCE = 19,
     /* kribbelsteen_sphere, kribbelsteen_ring and kribbelsteen_fresnel */
     KRIBBELSTEEN_NOT_FINITE = 20,
-    KRIBBELSTEEN_OUT_OF_RANGE = 21
+    KRIBBELSTEEN_OUT_OF_RANGE = 21,
+    /* kribbelsteen_write */
+    KRIBBELSTEEN_TABLES_DIFFER = 22,    /* the tables are not those of the text (0) */
+    KRIBBELSTEEN_OUTPUT_TOO_SMALL = 23  /* the output is too small for the tidy text (0) */
 };
+
+/* Which of two saves. */
+enum kribbelsteen_side { KRIBBELSTEEN_LEFT = 0, KRIBBELSTEEN_RIGHT = 1 };
+
+/* How a key of a line stands: only one save has it, or both have it and it is not the same. */
+enum kribbelsteen_state { KRIBBELSTEEN_ONLY_LEFT = 1, KRIBBELSTEEN_ONLY_RIGHT = 2, KRIBBELSTEEN_CHANGED = 3 };
 
 /* The other answers of the hit routines (1: the ray misses) and of Fresnel (1: total reflection). */
 #define KRIBBELSTEEN_MISS 1
@@ -108,6 +120,52 @@ uint32_t kribbelsteen_finish(const uint32_t *records, size_t records_len, size_t
  * answer: place and length of the word; where there is none, and for a place at or past the end, the text's length and 0.
  * There is no refusal, and nothing else is written. */
 void kribbelsteen_next_word(const uint8_t *text, size_t text_len, size_t at, size_t answer[2]);
+
+/* Reads two scene texts, each into two tables of its own, as kribbelsteen_read does.
+ *
+ * Returns 0 if both are accepted, else the reason, 1 to 16, of the one that is refused: the left one if both are.
+ * answer: which save is refused and the place there; then primitives and reals of the left save, and of the right one. Accepted
+ * saves have side and place 0, refused ones all four numbers 0.
+ * Writes all four tables whole, whatever they held: after a refusal of either save all entries of all of them are 0. */
+uint32_t kribbelsteen_read_both(const uint8_t *left, size_t left_len, uint32_t *left_records, size_t left_records_len,
+                                double *left_reals, size_t left_reals_len, const uint8_t *right, size_t right_len,
+                                uint32_t *right_records, size_t right_records_len, double *right_reals, size_t right_reals_len,
+                                size_t answer[6]);
+
+/* The next line of a comparison of two saves by name. The key of a primitive is its name and nth: which definition of that name it
+ * is, from 1. A key has a line if only one save has it, or if both have it and type, strings, bits of the reals, key of the alias
+ * target or key of the modifier is not the same; all NaNs count as one. Lines come in the order of names by bytes, then of nth.
+ *
+ * Lend each table of records up to its last record, so that records_len is KRIBBELSTEEN_RECORD * primitives: all whole records that
+ * are lent count. The tables may hold anything: name, strings and reals are what text and table have of those that a record states,
+ * and a link to no record leads to no key. Strings that both saves state are gone through one by one, however many.
+ *
+ * line, before the call: side (0 left, any other right) and number of the primitive whose key to go on from; a number that no
+ * primitive has, as 0, stands before all keys. The other two entries do not matter. So this shows all lines:
+ *
+ *     size_t line[4] = {0, 0, 0, 0};
+ *     while (kribbelsteen_next_line(.., line)) ..
+ *
+ * Returns 1 for a line and 0 where there are no more.
+ * line, after it: side and number of the primitive, in the left save if that has the key; nth; the state. All 0 where there are no
+ * more lines, so a further call begins again. Nothing else is written. */
+uint32_t kribbelsteen_next_line(const uint8_t *left, size_t left_len, const uint32_t *left_records, size_t left_records_len,
+                                const double *left_reals, size_t left_reals_len, const uint8_t *right, size_t right_len,
+                                const uint32_t *right_records, size_t right_records_len, const double *right_reals,
+                                size_t right_reals_len, size_t line[4]);
+
+/* Writes the tidy text of a scene: four lines for a primitive (modifier, type and name; strings; integers; reals, each of the last
+ * three with its count first) and one for an alias, one space between two words, no comments. An output of text_len + 1 bytes is
+ * enough.
+ *
+ * The tables may hold anything: they are compared with a new reading of the text into tables of the same lengths, which takes about
+ * 75 KB of stack. The used parts of longer tables will do.
+ * Returns 0, or refuses: 1 to 16 as that reading does, then 22 if the tables differ from its tables in any entry or bit, then 23 if
+ * the text is longer than the output.
+ * answer: place of the refusal, bytes of the tidy text. A written scene has place 0, a refused one length 0.
+ * Writes the output whole: bytes behind the text are 0, and on a refusal all are. The tables are not written. */
+uint32_t kribbelsteen_write(const uint8_t *text, size_t text_len, const uint32_t *records, size_t records_len,
+                            const double *reals, size_t reals_len, uint8_t *out, size_t out_len, size_t answer[2]);
 
 /* Where a ray hits a sphere.
  *

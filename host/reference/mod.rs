@@ -4,4 +4,6 @@
 
 pub mod random;
 pub mod rays;
+pub mod saves;
 pub mod scene;
+pub mod tidy;

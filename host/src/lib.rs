@@ -1,6 +1,6 @@
-//! Kribbelsteen for Rust: reads Radiance scene texts into tables that the caller lends, walks from a panel to its finish, and works
-//! out ray hits and Fresnel values. The work is done by a library that is proved to meet its contracts; this package only gives its
-//! numbers their Rust forms.
+//! Kribbelsteen for Rust: reads Radiance scene texts into tables that the caller lends, walks from a panel to its finish, compares
+//! two saves of a scene, writes a scene out tidy, and works out ray hits and Fresnel values. The work is done by a library that is
+//! proved to meet its contracts; this package only gives its numbers their Rust forms.
 //!
 //! ```
 //! use kribbelsteen::{Scene, RECORD};
@@ -29,14 +29,18 @@ mod questions;
 pub mod raw;
 mod rays;
 mod reading;
+mod saves;
 mod types;
 mod words;
+mod writing;
 
 pub use questions::{finish, name, Finish, Question};
 pub use rays::{fresnel, ring, root, sphere, Ray, Reflection, Ring, Sphere, Step};
 pub use reading::{read, Counts, Primitive, Reason, Refusal, Scene};
+pub use saves::{compare, read_both, Line, Lines, SaveRefusal, Saves, Side, State};
 pub use types::Type;
 pub use words::{next_word, words, Word, Words};
+pub use writing::{write, Unwritten};
 
 /// The longest text that is read, in bytes.
 pub const MOST_BYTES: usize = 65_536;

@@ -1,7 +1,8 @@
 //! The library's calls as they are: slices in, document numbers out. The rest of the package is written over these; they are there
 //! for callers that keep the numbers, and for comparisons.
 //!
-//! Each answer is filled beforehand with what the library never gives, so that an entry left out would show.
+//! Each answer is filled beforehand with what the library never gives, so that an entry left out would show. A line is the caller's
+//! own: the call takes its key from it.
 
 extern "C" {
     fn kribbelsteen_read(
@@ -31,6 +32,47 @@ extern "C" {
         answer: *mut usize,
     ) -> u32;
     fn kribbelsteen_next_word(text: *const u8, text_len: usize, at: usize, answer: *mut usize);
+    fn kribbelsteen_read_both(
+        left: *const u8,
+        left_len: usize,
+        left_records: *mut u32,
+        left_records_len: usize,
+        left_reals: *mut f64,
+        left_reals_len: usize,
+        right: *const u8,
+        right_len: usize,
+        right_records: *mut u32,
+        right_records_len: usize,
+        right_reals: *mut f64,
+        right_reals_len: usize,
+        answer: *mut usize,
+    ) -> u32;
+    fn kribbelsteen_next_line(
+        left: *const u8,
+        left_len: usize,
+        left_records: *const u32,
+        left_records_len: usize,
+        left_reals: *const f64,
+        left_reals_len: usize,
+        right: *const u8,
+        right_len: usize,
+        right_records: *const u32,
+        right_records_len: usize,
+        right_reals: *const f64,
+        right_reals_len: usize,
+        line: *mut usize,
+    ) -> u32;
+    fn kribbelsteen_write(
+        text: *const u8,
+        text_len: usize,
+        records: *const u32,
+        records_len: usize,
+        reals: *const f64,
+        reals_len: usize,
+        out: *mut u8,
+        out_len: usize,
+        answer: *mut usize,
+    ) -> u32;
     fn kribbelsteen_sphere(ray: *const f64, sphere: *const f64, answer: *mut f64) -> u32;
     fn kribbelsteen_ring(ray: *const f64, ring: *const f64, answer: *mut f64) -> u32;
     fn kribbelsteen_fresnel(cos1: f64, n1: f64, n2: f64, answer: *mut f64) -> u32;
@@ -88,6 +130,89 @@ pub fn next_word(text: &[u8], at: usize) -> [usize; 2] {
     // SAFETY: pointer and length are those of a slice, and only the answer, which has two entries, is written.
     unsafe { kribbelsteen_next_word(text.as_ptr(), text.len(), at, answer.as_mut_ptr()) };
     answer
+}
+
+/// Reads two scenes, the left one first: the reason, 0 if both are accepted; then side and place of the refusal, and primitives and
+/// reals of the left scene and of the right one.
+pub fn read_both(
+    left: &[u8],
+    left_records: &mut [u32],
+    left_reals: &mut [f64],
+    right: &[u8],
+    right_records: &mut [u32],
+    right_reals: &mut [f64],
+) -> (u32, [usize; 6]) {
+    let mut answer = [usize::MAX; 6];
+    // SAFETY: each pointer and length is that of a slice, the answer has six entries, and the borrows keep what is written apart.
+    let reason = unsafe {
+        kribbelsteen_read_both(
+            left.as_ptr(),
+            left.len(),
+            left_records.as_mut_ptr(),
+            left_records.len(),
+            left_reals.as_mut_ptr(),
+            left_reals.len(),
+            right.as_ptr(),
+            right.len(),
+            right_records.as_mut_ptr(),
+            right_records.len(),
+            right_reals.as_mut_ptr(),
+            right_reals.len(),
+            answer.as_mut_ptr(),
+        )
+    };
+    (reason, answer)
+}
+
+/// The next line of a comparison: 1, or 0 where there is none. The line's entries are side, number, nth and state, all 0 at the end;
+/// the first two say from which key to go on.
+pub fn next_line(
+    left: &[u8],
+    left_records: &[u32],
+    left_reals: &[f64],
+    right: &[u8],
+    right_records: &[u32],
+    right_reals: &[f64],
+    line: &mut [usize; 4],
+) -> u32 {
+    // SAFETY: each pointer and length is that of a slice, and only the line, which has four entries, is written.
+    unsafe {
+        kribbelsteen_next_line(
+            left.as_ptr(),
+            left.len(),
+            left_records.as_ptr(),
+            left_records.len(),
+            left_reals.as_ptr(),
+            left_reals.len(),
+            right.as_ptr(),
+            right.len(),
+            right_records.as_ptr(),
+            right_records.len(),
+            right_reals.as_ptr(),
+            right_reals.len(),
+            line.as_mut_ptr(),
+        )
+    }
+}
+
+/// Writes a scene out: the reason, 0 if it is written; then place and length.
+pub fn write(text: &[u8], records: &[u32], reals: &[f64], out: &mut [u8]) -> (u32, [usize; 2]) {
+    let mut answer = [usize::MAX; 2];
+    // SAFETY: each pointer and length is that of a slice, the answer has two entries, and the borrows keep what is written apart.
+    let reason = unsafe {
+        kribbelsteen_write(
+            text.as_ptr(),
+            text.len(),
+            records.as_ptr(),
+            records.len(),
+            reals.as_ptr(),
+            reals.len(),
+            out.as_mut_ptr(),
+            out.len(),
+            answer.as_mut_ptr(),
+        )
+    };
+    (reason, answer)
 }
 
 /// A ray (origin, direction) and a sphere (centre, radius): 0 for a hit, 1 for a miss, or 20 or 21; then the distance, 0 if none.

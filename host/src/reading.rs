@@ -1,6 +1,6 @@
 //! Scene texts, read into lent tables.
 
-use crate::{questions, raw, Finish, Question, Type, Word, Words, RECORD};
+use crate::{questions, raw, writing, Finish, Question, Type, Unwritten, Word, Words, RECORD};
 use std::error::Error;
 use std::fmt;
 
@@ -104,6 +104,13 @@ pub struct Refusal {
     pub place: usize,
 }
 
+impl Refusal {
+    /// The refusal of a reader's number.
+    pub(crate) fn from_number(number: u32, place: usize) -> Refusal {
+        Refusal { reason: Reason::from_number(number).expect("the library refuses scenes by 1 to 16"), place }
+    }
+}
+
 impl fmt::Display for Refusal {
     fn fmt(&self, f: &mut fmt::Formatter<'_>) -> fmt::Result {
         write!(f, "{} (reason {}), at byte {}", self.reason, self.reason.number(), self.place)
@@ -125,26 +132,30 @@ pub struct Counts {
 /// reals. Entries beyond those used become 0, and all of them if the scene is refused.
 pub fn read(text: &[u8], records: &mut [u32], reals: &mut [f64]) -> Result<Counts, Refusal> {
     let (number, [place, primitives, reals]) = raw::read(text, records, reals);
-    if number == 0 {
-        return Ok(Counts { primitives, reals });
+    match number {
+        0 => Ok(Counts { primitives, reals }),
+        _ => Err(Refusal::from_number(number, place)),
     }
-    let reason = Reason::from_number(number).expect("the library refuses scenes by 1 to 16");
-    Err(Refusal { reason, place })
 }
 
 /// An accepted scene: its text and both tables.
 #[derive(Clone, Copy, Debug)]
 pub struct Scene<'s> {
-    text: &'s [u8],
-    records: &'s [u32],
-    reals: &'s [f64],
+    pub(crate) text: &'s [u8],
+    pub(crate) records: &'s [u32],
+    pub(crate) reals: &'s [f64],
 }
 
 impl<'s> Scene<'s> {
     /// Reads a scene, as [`read`] does, and keeps its parts together.
     pub fn read(text: &'s [u8], records: &'s mut [u32], reals: &'s mut [f64]) -> Result<Scene<'s>, Refusal> {
         let counts = read(text, records, reals)?;
-        Ok(Scene { text, records: &records[..RECORD * counts.primitives], reals: &reals[..counts.reals] })
+        Ok(Scene::of(text, records, reals, counts))
+    }
+
+    /// The used parts of the tables of an accepted scene.
+    pub(crate) fn of(text: &'s [u8], records: &'s [u32], reals: &'s [f64], counts: Counts) -> Scene<'s> {
+        Scene { text, records: &records[..RECORD * counts.primitives], reals: &reals[..counts.reals] }
     }
 
     /// How much the scene holds.
@@ -165,6 +176,11 @@ impl<'s> Scene<'s> {
     /// The finish of the primitive of a number, with no more links followed than allowed.
     pub fn finish_within(&self, number: usize, allowance: usize) -> Result<Finish, Question> {
         questions::finish(self.records, self.counts().primitives, number, allowance)
+    }
+
+    /// Writes the scene's tidy text into a lent output, as [`write`](crate::write) does.
+    pub fn write<'o>(&self, out: &'o mut [u8]) -> Result<&'o [u8], Unwritten> {
+        writing::write(self.text, self.records, self.reals, out)
     }
 
     /// The primitive of a number, from 1.

@@ -18,6 +18,33 @@ primitives=0 reals=0
 name 9: 17
 name, 9 stated: 18
 finish 3, no links: 17 0 0
+name=bulb nth=1 state=right
+name=lamp nth=1 state=changed
+name=trim nth=1 state=left
+name=wall nth=2 state=left
+name=bulb nth=1 state=left
+name=lamp nth=1 state=changed
+name=trim nth=1 state=right
+name=wall nth=2 state=right
+scene=right refused=4 place=0
+scene=left refused=5 place=4
+written=0 place=0 length=126
+void plastic wall
+0
+0
+5 .5 .5 .5 0 0
+void plastic wall
+0
+0
+5 .2 .2 .2 0 0
+wall sphere lamp
+0
+0
+4 0 0 0 1
+void alias trim wall
+written=22 place=0 length=0
+written=23 place=0 length=0
+written=22 place=0 length=0
 word 1 4
 word 6 5
 word 12 0

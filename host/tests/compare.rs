@@ -11,7 +11,8 @@ mod made;
 use kribbelsteen::raw;
 use made::{floats, numerals, scenes};
 use reference::random::Random;
-use reference::{rays, scene};
+use reference::saves::{Comparison, Save};
+use reference::{rays, saves, scene, tidy};
 use std::collections::BTreeMap;
 use std::fmt::Debug;
 use std::io::Write;
@@ -232,13 +233,19 @@ fn damaged_tables(random: &mut Random, asked: &mut Questions, text: &[u8], recor
     asked.ask_all(&text[..text.len().min(50)], &made, count);
 }
 
+/// A text of so many primitives.
+fn full(primitives: usize) -> Vec<u8> {
+    format!("void mixfunc a 4 a b c d 0 0\n{}", "a alias a a\n".repeat(primitives - 1)).into_bytes()
+}
+
+/// A text with the largest tables that a reading can use.
+fn with_most(text: Vec<u8>) -> scenes::Case {
+    scenes::Case { text, records: 10_240, reals: 4_096 }
+}
+
 #[test]
 fn limits_are_met_alike() {
-    let line = "a alias a a\n";
-    let full =
-        |primitives: usize| format!("void mixfunc a 4 a b c d 0 0\n{}", line.repeat(primitives - 1)).into_bytes();
-    let case = |text: Vec<u8>| scenes::Case { text, records: 10_240, reals: 4_096 };
-    let reason = |text: Vec<u8>| compare_reading(&case(text)).0.reason;
+    let reason = |text: Vec<u8>| compare_reading(&with_most(text)).0.reason;
     assert_eq!(reason(full(1_024)), 0);
     assert_eq!(reason(full(1_025)), 6);
     assert_eq!(reason(vec![b'#'; 65_536]), 0);
@@ -268,6 +275,233 @@ fn limits_are_met_alike() {
             text[at] = byte;
             compare_reading(&scenes::Case { text, records: 30, reals: 11 });
         }
+    }
+}
+
+// ---- two saves
+
+struct BothRead {
+    reason: u32,
+    answer: [usize; 6],
+    records: [Vec<u32>; 2],
+    reals: [Vec<f64>; 2],
+}
+
+/// Reads two scenes both ways, compares all that comes of it, and gives the answer and the tables.
+fn compare_reading_both(cases: &[scenes::Case; 2]) -> BothRead {
+    let (record_filling, real_filling) = (0xdead_beef, -1234.5);
+    let [left, right] = cases;
+    let [mut a, mut b] = [left, right].map(|case| Lent::new(case.records, record_filling));
+    let [mut x, mut y] = [left, right].map(|case| Lent::new(case.reals, real_filling));
+    let (reason, answer) = raw::read_both(&left.text, a.table(), x.table(), &right.text, b.table(), y.table());
+
+    let mut records = [left, right].map(|case| vec![1; case.records]);
+    let mut reals = [left, right].map(|case| vec![1.0; case.reals]);
+    let expected = match saves::read_both([&left.text, &right.text], &mut records, &mut reals) {
+        Ok([m, n]) => (0, [0, 0, m.primitives, m.reals, n.primitives, n.reals]),
+        Err((side, refused)) => (refused.reason, [side, refused.place, 0, 0, 0, 0]),
+    };
+
+    let shown = || {
+        let lent = |case: &scenes::Case| {
+            format!("text {:?}, lent {} and {}", String::from_utf8_lossy(&case.text), case.records, case.reals)
+        };
+        cases.each_ref().map(lent)
+    };
+    assert_eq!((reason, answer), expected, "{:?}", shown());
+    assert!([a.table(), b.table()].into_iter().eq(&records), "records of {:?}", shown());
+    let ours = [x.table(), y.table()];
+    assert!(ours.iter().zip(&reals).all(|(ours, theirs)| bits(ours).eq(bits(theirs))), "reals of {:?}", shown());
+    assert!(a.margins_are(record_filling) && b.margins_are(record_filling), "outside the records: {:?}", shown());
+    assert!(x.margins_are(real_filling) && y.margins_are(real_filling), "outside the reals: {:?}", shown());
+    BothRead { reason, answer, records, reals }
+}
+
+/// All lines one after the other, and the line after some keys; counts the lines by state, 0 for the end.
+fn compare_lines(random: &mut Random, states: &mut Tally, left: Save, right: Save) {
+    let expected = Comparison::new(left, right);
+    let mut next = |mut line: [usize; 4]| {
+        let after = expected.after(line[0], line[1]);
+        let found =
+            raw::next_line(left.text, left.records, left.reals, right.text, right.records, right.reals, &mut line);
+        let shown = || format!("{:?} and {:?}", left.records, right.records);
+        assert_eq!((found, line), after.map_or((0, [0; 4]), |line| (1, line)), "{}", shown());
+        states.add(line[3] as u32);
+        (found == 1).then_some(line)
+    };
+    let mut lines = 0;
+    let mut line = next([0; 4]);
+    while let Some(held) = line {
+        lines += 1;
+        line = next(held);
+    }
+    assert_eq!(lines, expected.len());
+    let most = left.records.len().max(right.records.len()) / scene::RECORD;
+    for number in [random.below(most + 1), random.below(most + 1), most + 1, usize::MAX] {
+        for side in [0, 1, 2, usize::MAX] {
+            // What else the line holds is not looked at
+            next([side, number, usize::MAX, random.below(5)]);
+        }
+    }
+}
+
+/// The first records of a table with some numbers changed.
+fn spoiled(random: &mut Random, records: &[u32]) -> Vec<u32> {
+    let mut spoiled = records[..records.len() - random.below(records.len().min(25) + 1)].to_vec();
+    scenes::spoil_table(random, &mut spoiled);
+    limit_strings(spoiled)
+}
+
+/// Strings that both tables state are gone through one by one: so no record states many.
+fn limit_strings(mut records: Vec<u32>) -> Vec<u32> {
+    records.iter_mut().skip(6).step_by(scene::RECORD).for_each(|strings| *strings = (*strings).min(1_000));
+    records
+}
+
+#[test]
+fn saves_are_compared_alike() {
+    let mut random = random(7);
+    let mut read = Tally::new("two scenes read");
+    let mut lines = Tally::new("lines of read tables (0 the end, then by state)");
+    let mut others = Tally::new("lines of other tables (0 the end, then by state)");
+    for _ in 0..scene_count() / 4 {
+        let cases = scenes::saves(&mut random);
+        let BothRead { reason, answer, records, reals } = compare_reading_both(&cases);
+        read.add(reason);
+        let ([left, right], [_, _, m, j, n, k]) = (&cases, answer);
+        let (a, b) = (&records[0][..10 * m], &records[1][..10 * n]);
+        let (x, y) = (&reals[0][..j], &reals[1][..k]);
+        let left = Save { text: &left.text, records: a, reals: x };
+        let right = Save { text: &right.text, records: b, reals: y };
+        compare_lines(&mut random, &mut lines, left, right);
+        // Long tables take long
+        if a.len() + b.len() > 2_000 {
+            continue;
+        }
+        let (a, mut x) = (spoiled(&mut random, a), x.to_vec());
+        scenes::spoil_reals(&mut random, &mut x);
+        let odd = Save { text: left.text, records: &a, reals: &x };
+        compare_lines(&mut random, &mut others, odd, left);
+        compare_lines(&mut random, &mut others, right, odd);
+        // All NaNs are one
+        let alike: Vec<f64> = x.iter().map(|&x| if x.is_nan() { f64::from_bits(!0) } else { x }).collect();
+        let alike = Save { reals: &alike, ..odd };
+        assert_eq!(Comparison::new(odd, alike).len(), 0);
+        compare_lines(&mut random, &mut others, odd, alike);
+        let text = &left.text[..left.text.len().min(50)];
+        let [made, other] = [(); 2].map(|()| limit_strings(scenes::table(&mut random, text.len())));
+        let made = Save { text, records: &made, reals: &x };
+        compare_lines(&mut random, &mut others, made, Save { text, records: &other, reals: y });
+        compare_lines(&mut random, &mut others, made, odd);
+    }
+    read.report(0..=16, 40_000);
+    lines.report(0..=3, 10_000);
+    others.report(0..=3, 10_000);
+}
+
+#[test]
+fn large_saves_are_compared_alike() {
+    let cases = [full(1_024), full(1_023)].map(with_most);
+    let BothRead { reason, answer, records, .. } = compare_reading_both(&cases);
+    assert_eq!((reason, answer), (0, [0, 0, 1_024, 0, 1_023, 0]));
+    let [left, right] = [(0, 10_240), (1, 10_230)].map(|(side, used): (usize, usize)| Save {
+        text: &cases[side].text,
+        records: &records[side][..used],
+        reals: &[],
+    });
+    let mut lines = Tally::new("lines of large tables (0 the end, then by state)");
+    compare_lines(&mut random(9), &mut lines, left, right);
+    lines.report([0, 1], 1);
+    let refused = compare_reading_both(&[full(1_024), full(1_025)].map(with_most));
+    assert_eq!((refused.reason, refused.answer), (6, [1, full(1_024).len(), 0, 0, 0, 0]));
+}
+
+// ---- scenes written out
+
+/// Writes a scene out both ways, compares all that comes of it, and gives the reason and the tidy text.
+fn compare_writing(text: &[u8], records: &[u32], reals: &[f64], room: usize) -> (u32, Vec<u8>) {
+    let filling = 0xa5;
+    let mut out = Lent::new(room, filling);
+    let (lent_records, lent_reals) = (records.to_vec(), reals.to_vec());
+    let ours = raw::write(text, &lent_records, &lent_reals, out.table());
+    let (expected, tidy) = match tidy::write(text, records, reals, room) {
+        Ok(tidy) => ((0, [0, tidy.len()]), tidy),
+        Err(refused) => ((refused.reason, [refused.place, 0]), Vec::new()),
+    };
+    let shown = || {
+        format!("{room} bytes for {:?}, tables of {} and {}", String::from_utf8_lossy(text), records.len(), reals.len())
+    };
+    assert_eq!(ours, expected, "{}", shown());
+    let mut output = tidy.clone();
+    output.resize(room, 0);
+    assert!(out.table() == output, "output of {}", shown());
+    assert!(out.margins_are(filling), "written outside the output: {}", shown());
+    assert!(lent_records == records && bits(&lent_reals).eq(bits(reals)), "a table was written: {}", shown());
+    (ours.0, tidy)
+}
+
+/// Tables that are not quite those of a reading.
+fn tampered(random: &mut Random, records: &[u32], reals: &[f64]) -> (Vec<u32>, Vec<f64>) {
+    let (mut records, mut reals) = (records.to_vec(), reals.to_vec());
+    match random.below(4) {
+        0 => scenes::spoil_reals(random, &mut reals),
+        1 => scenes::spoil_table(random, &mut records),
+        2 => records.extend((0..random.within(1, 12)).map(|at| (at == 11) as u32)),
+        _ => reals.extend((0..random.within(1, 3)).map(|at| if at == 2 { -0.0 } else { 0.0 })),
+    }
+    (records, reals)
+}
+
+/// The tidy text of a scene reads back as the same table but for places, and is its own tidy text.
+fn read_back(tidy: &[u8], records: &[u32], reals: &[f64]) {
+    let (mut again, mut doubles) = (vec![1; records.len()], vec![1.0; reals.len()]);
+    assert_eq!(raw::read(tidy, &mut again, &mut doubles).0, 0, "{:?}", String::from_utf8_lossy(tidy));
+    let but_places = |records: &[u32]| -> Vec<u32> {
+        records.iter().enumerate().map(|(at, &number)| if matches!(at % 10, 3 | 5) { 0 } else { number }).collect()
+    };
+    assert!(but_places(&again) == but_places(records) && bits(&doubles).eq(bits(reals)));
+    assert_eq!(compare_writing(tidy, &again, &doubles, tidy.len()), (0, tidy.to_vec()));
+}
+
+#[test]
+fn scenes_are_written_alike() {
+    let mut random = random(8);
+    let mut tally = Tally::new("scenes written");
+    for _ in 0..scene_count() / 4 {
+        let case = scenes::case(&mut random);
+        let (mut records, mut reals) = (vec![1; case.records], vec![1.0; case.reals]);
+        let read = expected_read(&case.text, &mut records, &mut reals);
+        let enough = case.text.len() + 1 + random.below(40);
+        let (reason, tidy) = compare_writing(&case.text, &records, &reals, enough);
+        tally.add(reason);
+        assert!(reason == read.reason, "an output one byte longer than the text is enough");
+        if reason == 0 {
+            let [_, primitives, used] = read.answer;
+            let whole = (&records[..10 * primitives], &reals[..used]);
+            assert_eq!(compare_writing(&case.text, whole.0, whole.1, tidy.len()), (0, tidy.clone()));
+            if tidy.len() <= scene::MOST_BYTES {
+                read_back(&tidy, &records, &reals);
+            }
+            for room in [tidy.len().saturating_sub(1), random.below(tidy.len() + 1), 0] {
+                tally.add(compare_writing(&case.text, &records, &reals, room).0);
+            }
+        }
+        let (records, reals) = tampered(&mut random, &records, &reals);
+        tally.add(compare_writing(&case.text, &records, &reals, enough).0);
+    }
+    tally.report((0..=16).chain([22, 23]), 10_000);
+}
+
+/// The longest tidy text: words with one blank between them up to the last byte of the longest text, and a line end more.
+#[test]
+fn the_longest_tidy_text_is_written_alike() {
+    let strings = 32_756;
+    let text = format!("void mixfunc m {strings}{} 0 0", " s".repeat(strings)).into_bytes();
+    assert_eq!(text.len(), scene::MOST_BYTES);
+    let (mut records, mut reals) = ([1; 10], [1.0; 1]);
+    assert_eq!(raw::read(&text, &mut records, &mut reals).0, 0);
+    for (room, expected) in [(scene::MOST_BYTES, 23), (scene::MOST_BYTES + 1, 0), (scene::MOST_BYTES + 2, 0)] {
+        assert_eq!(compare_writing(&text, &records, &reals, room).0, expected);
     }
 }
 

@@ -1,4 +1,5 @@
-/* A host program in C: reads a small scene, and prints its names, its finishes and a few float answers. */
+/* A host program in C: reads a small scene, and prints its names, its finishes, what is new in a later save, its tidy text and a few
+ * float answers. */
 #include "kribbelsteen.h"
 
 #include <math.h>
@@ -30,6 +31,42 @@ static void print_scene(const char *scene) {
     printf("name, 9 stated: %u\n", (unsigned)kribbelsteen_name(text, len, records, ROOM * KRIBBELSTEEN_RECORD, 9, 1, name));
     printf("finish 3, no links: %u", (unsigned)kribbelsteen_finish(records, ROOM * KRIBBELSTEEN_RECORD, answer[1], 3, 0, finish));
     printf(" %zu %zu\n", finish[0], finish[1]);
+}
+
+static uint32_t later_records[ROOM * KRIBBELSTEEN_RECORD];
+static double later_reals[32];
+
+static void print_changes(const char *left, const char *right) {
+    static const char *const states[] = {"", "left", "right", "changed"};
+    const uint8_t *texts[2] = {(const uint8_t *)left, (const uint8_t *)right};
+    size_t left_len = strlen(left), right_len = strlen(right), answer[6], line[4] = {0, 0, 0, 0}, name[2];
+    uint32_t reason = kribbelsteen_read_both(texts[0], left_len, records, ROOM * KRIBBELSTEEN_RECORD, reals, 32, texts[1],
+                                             right_len, later_records, ROOM * KRIBBELSTEEN_RECORD, later_reals, 32, answer);
+    if (reason != KRIBBELSTEEN_ACCEPTED) {
+        printf("scene=%s refused=%u place=%zu\n", answer[0] == KRIBBELSTEEN_LEFT ? "left" : "right", (unsigned)reason, answer[1]);
+        return;
+    }
+    while (kribbelsteen_next_line(texts[0], left_len, records, answer[2] * KRIBBELSTEEN_RECORD, reals, answer[3], texts[1],
+                                  right_len, later_records, answer[4] * KRIBBELSTEEN_RECORD, later_reals, answer[5], line)) {
+        if (line[0] == KRIBBELSTEEN_LEFT)
+            kribbelsteen_name(texts[0], left_len, records, ROOM * KRIBBELSTEEN_RECORD, answer[2], line[1], name);
+        else
+            kribbelsteen_name(texts[1], right_len, later_records, ROOM * KRIBBELSTEEN_RECORD, answer[4], line[1], name);
+        printf("name=%.*s nth=%zu state=%s\n", (int)name[1], (const char *)texts[line[0]] + name[0], line[2], states[line[3]]);
+    }
+}
+
+static void print_tidy(const char *scene, size_t room) {
+    static uint8_t out[512];
+    const uint8_t *text = (const uint8_t *)scene;
+    size_t len = strlen(scene), counts[3], answer[2];
+    uint32_t reason;
+    kribbelsteen_read(text, len, records, ROOM * KRIBBELSTEEN_RECORD, reals, 32, counts);
+    reason = kribbelsteen_write(text, len, records, ROOM * KRIBBELSTEEN_RECORD, reals, 32, out, room, answer);
+    printf("written=%u place=%zu length=%zu\n%.*s", (unsigned)reason, answer[0], answer[1], (int)answer[1], (const char *)out);
+    reals[31] = -0.0;
+    reason = kribbelsteen_write(text, len, records, ROOM * KRIBBELSTEEN_RECORD, reals, 32, out, room, answer);
+    printf("written=%u place=%zu length=%zu\n", (unsigned)reason, answer[0], answer[1]);
 }
 
 static void print_words(const char *text) {
@@ -71,14 +108,24 @@ static void print_floats(void) {
 }
 
 int main(void) {
-    print_scene("# a lamp before a wall\n"
-                "void plastic wall 0 0 5 .5 .5 .5 0 0\n"
-                "void plastic wall 0 0 5 .2 .2 .2 0 0\n"
-                "wall sphere lamp 0 0 4 0 0 0 1\n"
-                "void alias trim wall\n");
+    const char *sample = "# a lamp before a wall\n"
+                         "void plastic wall 0 0 5 .5 .5 .5 0 0\n"
+                         "void plastic wall 0 0 5 .2 .2 .2 0 0\n"
+                         "wall sphere lamp 0 0 4 0 0 0 1\n"
+                         "void alias trim wall\n";
+    const char *later = "void plastic wall 0 0 5 .5 .5 .5 0 0\n"
+                        "wall sphere lamp 0 0 4 0 0 0 1\n"
+                        "void light bulb 0 0 3 1 1 1\n";
+    print_scene(sample);
     print_scene("a sphere s 0 0 4 0 0 0 1");
     print_scene("void sphere s 0 0 4 0 0 0 0");
     print_scene("");
+    print_changes(sample, later);
+    print_changes(later, sample);
+    print_changes(sample, "!");
+    print_changes("void", "!");
+    print_tidy(sample, 512);
+    print_tidy(sample, 16);
     print_words(" void\tlight ");
     print_floats();
     return 0;

@@ -74,6 +74,67 @@ fn numbers_and_reasons_agree() {
     assert_eq!((Type::from_number(0), Type::from_number(26)), (None, None));
 }
 
+/// The same scene later: the first finish repainted, the lamp gone, the panel on another finish, and a bulb more.
+const LATER: &[u8] = b"void plastic wall 0 0 5 .5 .5 .6 0 0\n\
+    void plastic wall 0 0 5 .2 .2 .2 0 0\n\
+    void alias trim wall\n\
+    trim illum panel 1 trim 0 3 1 2 3\n\
+    void light bulb 0 0 3 1 1 1\n";
+
+#[test]
+fn saves_are_compared_by_name() {
+    let ((mut a, mut x), (mut b, mut y)) = (([9; RECORD * 6], [9.0; 20]), ([9; RECORD * 7], [9.0; 21]));
+    let saves = Saves::read(SAMPLE, &mut a, &mut x, LATER, &mut b, &mut y).expect("both are well-formed");
+    assert_eq!(saves.left.counts(), Counts { primitives: 5, reals: 17 });
+    assert_eq!(saves.right.counts(), Counts { primitives: 5, reals: 16 });
+    let mut lines = saves.lines();
+    let line = |name, nth, state, side, number| Some(Line { name, nth, state, side, number });
+    assert_eq!(lines.next(), line(b"bulb", 1, State::OnlyRight, Side::Right, 5));
+    assert_eq!(lines.next(), line(b"lamp", 1, State::OnlyLeft, Side::Left, 3));
+    assert_eq!(lines.next(), line(b"panel", 1, State::Changed, Side::Left, 5));
+    assert_eq!(lines.next(), line(b"wall", 1, State::Changed, Side::Left, 1));
+    assert_eq!((lines.next(), lines.next()), (None, None));
+    assert_eq!(compare(saves.left, saves.left).count(), 0);
+    let states = compare(saves.right, saves.left).map(|line| line.state.to_string());
+    assert_eq!(states.collect::<Vec<_>>(), ["left", "right", "changed", "changed"]);
+}
+
+#[test]
+fn a_refused_save_is_named() {
+    let ((mut a, mut x), (mut b, mut y)) = (([9; 60], [9.0; 20]), ([9; 70], [9.0; 21]));
+    let refused = b"a sphere s 0 0 4 0 0 0 1";
+    let refusal =
+        read_both(SAMPLE, &mut a, &mut x, refused, &mut b, &mut y).expect_err("the right one has no modifier");
+    assert_eq!(refusal.side, Side::Right);
+    assert_eq!(refusal.refusal, Refusal { reason: Reason::NoModifier, place: 0 });
+    assert_eq!(((a, x), (b, y)), (([0; 60], [0.0; 20]), ([0; 70], [0.0; 21])));
+    assert_eq!(refusal.to_string(), "right scene: modifier not defined above (reason 7), at byte 0");
+    let refusal = read_both(b"!", &mut a, &mut x, refused, &mut b, &mut y).expect_err("both are refused");
+    assert_eq!((refusal.side, refusal.refusal.reason), (Side::Left, Reason::Command));
+}
+
+#[test]
+fn a_scene_is_written_out() {
+    let text = b"  void light # 0 0 03 1. 1e0 +1 # the name was no comment\nvoid alias trim #";
+    let tidy = b"void light #\n0\n0\n3 1. 1e0 +1\nvoid alias trim #\n";
+    let (mut records, mut reals, mut out) = ([9; 35], [9.0; 5], [9; 80]);
+    let scene = Scene::read(text, &mut records, &mut reals).expect("well-formed");
+    assert_eq!(scene.write(&mut out), Ok(&tidy[..]));
+    assert!(out[tidy.len()..].iter().all(|&byte| byte == 0));
+    assert_eq!(write(text, &records, &reals, &mut out), Ok(&tidy[..]));
+    assert_eq!(write(text, &records, &reals, &mut out[..tidy.len()]), Ok(&tidy[..]));
+    assert_eq!(write(text, &records, &reals, &mut out[..tidy.len() - 1]), Err(Unwritten::OutputTooSmall));
+    reals[4] = f64::NAN;
+    assert_eq!(write(text, &records, &reals, &mut out), Err(Unwritten::TablesDiffer));
+    assert_eq!(out, [0; 80]);
+    let refusal = Refusal { reason: Reason::NoRealRoom, place: 19 };
+    assert_eq!(write(text, &records, &reals[..2], &mut out), Err(Unwritten::Refused(refusal)));
+    assert_eq!(Unwritten::Refused(refusal).to_string(), "no room for the reals (reason 13), at byte 19");
+    let numbers =
+        [Unwritten::Refused(refusal), Unwritten::TablesDiffer, Unwritten::OutputTooSmall].map(Unwritten::number);
+    assert_eq!(numbers, [13, 22, 23]);
+}
+
 #[test]
 fn words_end_where_the_text_does() {
     let text = b" one\n\ttwo ";

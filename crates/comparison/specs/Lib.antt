@@ -1,5 +1,6 @@
 -- To be believed.
 pub mod Compare
 pub mod NextLine
+pub mod Answer
 -- Inner models of the proofs.
 pub mod Steps

@@ -1,11 +1,12 @@
 // The entry points for host programs, under C's calling convention: numbers, slices and small arrays, no precondition. Each is
-// the call of the same promise in `host_scenes` or `host_rays`.
+// the call of the same promise in `host_scenes`, `host_saves` or `host_rays`.
 ghost use mathlib.Core.Path.{_≡_};
 ghost use Rattle.finish.specs.Question.{nameRefusal};
 ghost use Rattle.fresnel.specs.Fresnel.{fresnelOf};
 ghost use Rattle.hits.specs.Ring.{ringHit};
 ghost use Rattle.hits.specs.Sphere.{sphereHit};
 ghost use Rattle.host_rays.specs.Host.{hitKind, hitValues, rayIn, reflectionKind, reflectionValues, ringIn, sphereIn};
+ghost use Rattle.host_saves.specs.Host.{HostLine, HostReadsBoth, HostWrites};
 ghost use Rattle.host_scenes.specs.Host.{HostReads, finishReason, finishValues, namePart, wordValues};
 ghost use Rattle.root.specs.Root.{rootOf};
 
@@ -58,6 +59,68 @@ pub extern "C" fn kribbelsteen_next_word(text: &[u8], at: usize, answer: &mut [u
     ensures { λ r. ⌜ now (answer .exit) ≡ wordValues (now (text .entry)) at ⌝ }
 {
     host_scenes::tell_word(text, at, answer);
+}
+
+// Reads two scenes: the reason or 0, and side, place, and primitives and reals of each.
+#[no_mangle]
+pub extern "C" fn kribbelsteen_read_both(
+    left: &[u8],
+    left_records: &mut [u32],
+    left_reals: &mut [f64],
+    right: &[u8],
+    right_records: &mut [u32],
+    right_reals: &mut [f64],
+    answer: &mut [usize; 6],
+) -> u32
+    ensures { λ r. ⌜ HostReadsBoth (now (left .entry)) (now («left_records» .entry)) (now («left_reals» .entry)) (now (right .entry)) (now («right_records» .entry)) (now («right_reals» .entry)) r (now (answer .exit)) (now («left_records» .exit)) (now («left_reals» .exit)) (now («right_records» .exit)) (now («right_reals» .exit)) ⌝ }
+{
+    host_saves::tell_both(
+        left,
+        left_records,
+        left_reals,
+        right,
+        right_records,
+        right_reals,
+        answer,
+    )
+}
+
+// The next line after the key held: 1 for a line and 0 for the end, and side, number, nth and state in place of the key.
+#[no_mangle]
+pub extern "C" fn kribbelsteen_next_line<'a>(
+    left: &'a [u8],
+    left_records: &[u32],
+    left_reals: &[f64],
+    right: &'a [u8],
+    right_records: &[u32],
+    right_reals: &[f64],
+    line: &mut [usize; 4],
+) -> u32
+    ensures { λ r. ⌜ HostLine (now (left .entry)) (now («left_records» .entry)) (now («left_reals» .entry)) (now (right .entry)) (now («right_records» .entry)) (now («right_reals» .entry)) (now (line .entry)) r (now (line .exit)) ⌝ }
+{
+    host_saves::tell_line(
+        left,
+        left_records,
+        left_reals,
+        right,
+        right_records,
+        right_reals,
+        line,
+    )
+}
+
+// Writes a scene out: the reason or 0, and the place of a refusal and the length of the text.
+#[no_mangle]
+pub extern "C" fn kribbelsteen_write(
+    text: &[u8],
+    records: &[u32],
+    reals: &[f64],
+    out: &mut [u8],
+    answer: &mut [usize; 2],
+) -> u32
+    ensures { λ r. ⌜ HostWrites (now (text .entry)) (now (records .entry)) (now (reals .entry)) (now (out .entry)) r (now (answer .exit)) (now (out .exit)) ⌝ }
+{
+    host_saves::tell_written(text, records, reals, out, answer)
 }
 
 // A ray on a sphere: 0 hit, 1 miss, or the refusal's number, and the distance.

@@ -1,5 +1,5 @@
 -- "Both texts are read afresh. Refusals: the reader's own, left scene first"; one "zeroes the tables of both".
-use mathlib.Core.List.{List}
+use mathlib.Core.List.{List, [], _∷_}
 use mathlib.Core.Path.{_≡_}
 use Prim.Native.Nat.{ℕ}
 use lib.Ieee.{Float}
@@ -10,7 +10,22 @@ use Rattle.scene.specs.Reading.{Reading, refused, accepted}
 use Rattle.scene.specs.Record.{recordImage, realImage, realTable}
 use Rattle.pair.specs.declared.Both.{Both}
 use Rattle.pair.specs.declared.Both.the-variants.{Read, Refused}
+use Rattle.pair.specs.declared.Side.{Side}
 use Rattle.pair.specs.declared.Side.the-variants as on
+
+-- document 01's number of each answer: "the reader's own", 0 where both are read
+abbrev pub reasonOf : Both → ℕ
+reasonOf (Read m j n k) = 0
+reasonOf (Refused s r p) = r
+
+abbrev pub sideNumber : Side → ℕ
+sideNumber on.Left = 0
+sideNumber on.Right = 1
+
+-- and its values: which scene is refused, and where; primitives and reals, left then right
+abbrev pub valuesOf : Both → List ℕ
+valuesOf (Read m j n k) = 0 ∷ 0 ∷ m ∷ j ∷ n ∷ k ∷ []
+valuesOf (Refused s r p) = sideNumber s ∷ p ∷ 0 ∷ 0 ∷ 0 ∷ 0 ∷ []
 
 -- the answer that two readings come to
 abbrev pub bothAnswer : (left right : Reading) → Both

@@ -1,6 +1,6 @@
 -- What the writing call answers, and what it leaves in the lent output.
 use mathlib.Core.Bool.{cond}
-use mathlib.Core.List.{List, []}
+use mathlib.Core.List.{List, [], _∷_}
 use mathlib.Core.Path.{_≡_}
 use Prim.Native.Nat.{ℕ}
 use lib.Dec.{leb}
@@ -39,6 +39,15 @@ tidied text records reals room = outcomeOf text records reals room (readInto tex
 abbrev pub answered : Outcome → Answer
 answered (refused n p) = Refused n p
 answered (written t) = Written (length t)
+
+-- document 01's number of each answer, and its values: the place of a refusal, the length of a text
+abbrev pub reasonOf : Answer → ℕ
+reasonOf (Refused n p) = n
+reasonOf (Written k) = 0
+
+abbrev pub valuesOf : Answer → List ℕ
+valuesOf (Refused n p) = p ∷ 0 ∷ []
+valuesOf (Written k) = 0 ∷ k ∷ []
 
 -- "refusals zero the whole output, success its unused rest"
 abbrev pub bytesOf : Outcome → Bytes

@@ -266,30 +266,41 @@ fn lent(random: &mut Random, most: usize, needed: usize) -> usize {
 const MOST_RECORD_NUMBERS: usize = 10 * 1024;
 const MOST_REALS: usize = 4096;
 
-/// A scene of up to some hundred statements.
-fn ordinary(random: &mut Random) -> Case {
+/// Up to some hundred statements, and what they give.
+fn statements(random: &mut Random) -> (Vec<Words>, Given) {
     let size = match random.below(100) {
         0..=79 => random.below(13),
         80..=96 => random.within(13, 50),
         _ => random.within(51, 250),
     };
     let mut given = Given::default();
-    let mut statements: Vec<Words> = (0..size).map(|_| statement(random, &mut given)).collect();
-    if random.percent(40) {
-        for _ in 0..random.within(1, 2) {
-            spoil(random, &mut statements);
-        }
-    }
-    let mut text = joined(random, &statements);
-    if random.percent(20) {
-        damage(random, &mut text);
-    }
+    let statements = (0..size).map(|_| statement(random, &mut given)).collect();
+    (statements, given)
+}
+
+/// A text of statements, and tables for it.
+fn laid_out(random: &mut Random, statements: &[Words], damages: usize) -> Case {
+    let mut text = joined(random, statements);
+    (0..damages).for_each(|_| damage(random, &mut text));
+    let size = statements.len();
     let words: usize = statements.iter().map(Vec::len).sum();
     Case {
         text,
         records: lent(random, MOST_RECORD_NUMBERS, 10 * size),
         reals: lent(random, MOST_REALS, words.saturating_sub(6 * size)),
     }
+}
+
+/// A scene of up to some hundred statements.
+fn ordinary(random: &mut Random) -> Case {
+    let (mut statements, _) = statements(random);
+    if random.percent(40) {
+        for _ in 0..random.within(1, 2) {
+            spoil(random, &mut statements);
+        }
+    }
+    let damages = usize::from(random.percent(20));
+    laid_out(random, &statements, damages)
 }
 
 /// Bytes with no plan behind them, or few of a scene's words.
@@ -354,6 +365,48 @@ pub fn case(random: &mut Random) -> Case {
     }
 }
 
+/// Statements changed as between two saves: mostly so that they are accepted still.
+fn change(random: &mut Random, statements: &mut Vec<Words>, given: &mut Given) {
+    let size = statements.len();
+    let at = random.below(size.max(1));
+    match random.below(10) {
+        _ if size < 2 => statements.push(statement(random, given)),
+        0..=2 => {
+            let last = statements[at].last_mut().expect("a statement has words");
+            if last != b"0" {
+                *last = numerals::positive(random).into_bytes();
+            }
+        }
+        3 => statements.insert(at, statements[at].clone()),
+        4 => drop(statements.pop()),
+        5 => drop(statements.remove(at)),
+        6 => statements.swap(at, (at + 1) % size),
+        7 => statements[at][0] = b"void".to_vec(),
+        8 => spoil(random, statements),
+        _ => statements.push(statement(random, given)),
+    }
+}
+
+/// Two saves of a scene; now and then two scenes.
+pub fn saves(random: &mut Random) -> [Case; 2] {
+    if random.percent(10) {
+        return [case(random), case(random)];
+    }
+    let (left, mut given) = statements(random);
+    let mut right = left.clone();
+    for _ in 0..random.below(6) {
+        change(random, &mut right, &mut given);
+    }
+    let mut saves = [left, right];
+    if random.percent(50) {
+        saves.swap(0, 1);
+    }
+    saves.map(|statements| {
+        let damages = usize::from(random.percent(5));
+        laid_out(random, &statements, damages)
+    })
+}
+
 /// A table that no reading gave: small numbers, so that links and types are often in order and often not.
 pub fn table(random: &mut Random, text_len: usize) -> Vec<u32> {
     let rows = random.below(12);
@@ -368,6 +421,18 @@ pub fn table(random: &mut Random, text_len: usize) -> Vec<u32> {
         .collect();
     spoil_table(random, &mut records);
     records
+}
+
+/// Reals that no reading gives among the others.
+pub fn spoil_reals(random: &mut Random, reals: &mut [f64]) {
+    if reals.is_empty() {
+        return;
+    }
+    for _ in 0..random.below(4) {
+        let at = random.below(reals.len());
+        let other_nan = f64::from_bits(0xfff0_0000_0000_0001);
+        reals[at] = *random.pick(&[0.0, -0.0, -reals[at], f64::NAN, other_nan, f64::INFINITY, 5e-324]);
+    }
 }
 
 /// A few numbers of a table changed.

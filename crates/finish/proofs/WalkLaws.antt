@@ -13,7 +13,9 @@ use Rattle.finish.specs.declared.Finish.{Finish}
 use Rattle.finish.specs.declared.Finish.the-variants.{Reached, Refused}
 use Rattle.finish.specs.declared.Link.{Link}
 use Rattle.finish.specs.declared.Link.the-variants.{Ended, On}
+use Rattle.scene.specs.Record.{fieldIn}
 use Rattle.scene.specs.Types.{isMaterial, isType}
+use Rattle.table.proofs.QuestionLaws.{modifier-field, type-field}
 
 -- ---- what a type comes to
 
@@ -59,9 +61,16 @@ walk-on : (v : View) (left k n : ℕ) → 0 < v n .modifier → v n .modifier < 
 unfolding walkFrom
 walk-on v left k n z h = link-on _ n k _ z h
 
-module _ (v : View) (n k allowance link : ℕ) (at : link ≡ v n .modifier) where
+-- by the number that the table has as the link of primitive n
+module _ (table : List ℕ) (n k allowance : ℕ) where
+  abbrev v : View
+  v = viewOf table
+
+  abbrev link : ℕ
+  link = fieldIn table n 1
+
   link-is : v n .modifier ≡ link
-  link-is = sym at
+  link-is = sym (modifier-field table n)
 
   pub follows-0 : link ≡ 0 → Follows v n k allowance (Ended (Reached 0 k))
   follows-0 e = walk-0 v (allowance - k) k n (link-is ∙ e)
@@ -90,10 +99,10 @@ module _ (v : View) (n k allowance link : ℕ) (at : link ≡ v n .modifier) whe
       go true false e = (h, a, e)
       go false c e = e
 
-  pub follows-type : 0 < link → link < n → k < allowance → (t : ℕ) → t ≡ v link .type → (r : Link) → r ≡ reachedOf t link (k + 1) → Follows v n k allowance r
-  follows-type z h a t q r e =
-      let w = further z h a ∙ ap (λ (s : ℕ). atType s link (k + 1) (walkFrom v (allowance - (k + 1)) (k + 1) link)) (sym q) in
-      subst (Follows v n k allowance) (sym e) (on-type t h a w)
+  pub follows-type : 0 < link → link < n → k < allowance → (r : Link) → r ≡ reachedOf (fieldIn table link 0) link (k + 1) → Follows v n k allowance r
+  follows-type z h a r e =
+      let w = further z h a ∙ ap (λ (s : ℕ). atType s link (k + 1) (walkFrom v (allowance - (k + 1)) (k + 1) link)) (sym (type-field table link)) in
+      subst (Follows v n k allowance) (sym e) (on-type (fieldIn table link 0) h a w)
 
 -- ---- the walk
 

@@ -235,9 +235,12 @@ module _ (text : Bytes) (T₀ : List ℕ) (D₀ : List Float) where
     doubles = d ∙ zero-reals (length D₀) n p ∙ ap (realImage (length D₀)) (sym e);
   }
 
-  pub too-long : 65536 < length text → readInto text T₀ D₀ ≡ refused 1 0
+  too-long : 65536 < length text → readInto text T₀ D₀ ≡ refused 1 0
   unfolding read
   too-long h = ap (λ (b : Bool). cond b (finish (length text) (run (settingsFor (length T₀) (length D₀)) initial (text ++ newline))) (refused 1 0)) (lt-leb (length text) 65536 h)
+
+  pub long-reads : (T : List ℕ) (D : List Float) → 65536 < length text → T ≡ replicate (length T₀) 0 → D ≡ replicate (length D₀) zeroReal → Reads text T₀ D₀ (Refused 1 0) T D
+  long-reads T D h = refused-reads 1 0 T D (too-long h)
 
   module _ (R : Settings) (q : R ≡ settingsFor (length T₀) (length D₀)) (h : length text ≤ 65536) where
     pub reads-as : readInto text T₀ D₀ ≡ result text R

@@ -1,10 +1,7 @@
 -- `finish::follow` meets its contract.
-use mathlib.Core.Path.{_∙_}
 use native.Mathlib.Omega.{arith}
 use borrow.Author.Needs.{needs}
 use Rattle.finish.proofs.WalkLaws.{follows-0, follows-late, follows-out, follows-type}
-use Rattle.table.proofs.QuestionLaws.{modifier-field, type-field}
-use Rattle.table.specs.View.{viewOf}
 use Rattle.finish.proofs.follow.Statement.{statement}
 use Rattle.finish.proofs.follow.Tie as tie
 
@@ -15,13 +12,13 @@ wide-requires : tie.Need-wide-requires
 wide-requires c κs = search needs
 
 returns : tie.Need-returns
-returns c = follows-0 (viewOf (c .before .before .before .before .args .records .now)) (c .before .before .before .before .args .at) (c .before .before .before .before .args .links) (c .before .before .before .before .args .allowance) _ (c .before .wide .ensures ∙ c .before .before .field .ensures ∙ modifier-field _ _) (omega arith)
+returns c = follows-0 _ _ _ _ (omega arith)
 
 returns-2 : tie.Need-returns-2
-returns-2 c = follows-late (viewOf (c .before .before .before .before .before .args .records .now)) (c .before .before .before .before .before .args .at) (c .before .before .before .before .before .args .links) (c .before .before .before .before .before .args .allowance) _ (c .before .before .wide .ensures ∙ c .before .before .before .field .ensures ∙ modifier-field _ _) (omega arith) (omega arith)
+returns-2 c = follows-late _ _ _ _ (omega arith) (omega arith)
 
 returns-3 : tie.Need-returns-3
-returns-3 c = follows-out (viewOf (c .before .before .before .before .before .before .args .records .now)) (c .before .before .before .before .before .before .args .at) (c .before .before .before .before .before .before .args .links) (c .before .before .before .before .before .before .args .allowance) _ (c .before .before .before .wide .ensures ∙ c .before .before .before .before .field .ensures ∙ modifier-field _ _) (omega arith) (omega arith) (omega arith)
+returns-3 c = follows-out _ _ _ _ (omega arith) (omega arith) (omega arith)
 
 field-requires-2 : tie.Need-field-requires-2
 field-requires-2 c κs = search needs
@@ -33,7 +30,9 @@ reached-requires : tie.Need-reached-requires
 reached-requires c κs = search needs
 
 returns-4 : tie.Need-returns-4
-returns-4 c = follows-type (viewOf (c .before .before .before .before .before .before .before .before .args .records .now)) (c .before .before .before .before .before .before .before .before .args .at) (c .before .before .before .before .before .before .before .before .args .links) (c .before .before .before .before .before .before .before .before .args .allowance) _ (c .before .before .before .before .before .wide .ensures ∙ c .before .before .before .before .before .before .field .ensures ∙ modifier-field _ _) (omega arith) (omega arith) (omega arith) _ (c .before .field2 .ensures ∙ type-field _ _) _ (c .reached .ensures)
+returns-4 c =
+    let a = c .before .before .before .before .before .before .before .before .args in
+    follows-type (a .records .now) (a .at) (a .links) (a .allowance) (omega arith) (omega arith) (omega arith) (c .reached .result) cc
 
 pub follow-spec : {M : Type 1} → statement M
 follow-spec =

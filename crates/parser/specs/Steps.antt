@@ -1,107 +1,32 @@
--- What each step answers, over the code's own values.
+-- The step of what stands next in a text, over the code's own values.
 use mathlib.Core.Bool.{cond}
-use mathlib.Core.Option.{Option, none, some}
-use Prim.Native.Nat.{ℕ, zero, suc, _+_, _-_}
-use lib.Dec.{leb, ltb}
+use mathlib.Core.List.{List}
+use Prim.Native.Nat.{ℕ, _+_}
+use lib.Dec.{eqb}
 use lib.Ieee.{Float}
-use Rattle.laws.specs.Bytes.{Bytes}
-use Rattle.numeral.specs.Count.{countOf}
-use Rattle.numeral.specs.Numeral.{numeralOf, value, refusal, Answer as Numeral}
-use Rattle.statement.specs.Heads.{goingTo, kindStep, modifierStep, nameStep, targetStep}
-use Rattle.statement.specs.declared.Draft.{Draft}
-use Rattle.statement.specs.declared.Phase.{Phase}
+use lib.ListN.{getD, length}
+use Rattle.arguments.specs.Steps.{integerCountStep, realCountStep, realStep, stringCountStep, stringStep, withString}
+use Rattle.laws.specs.Bytes.{Bytes, part}
+use Rattle.laws.specs.Runs.{past}
+use Rattle.lexer.specs.Class.{isInLine}
+use Rattle.lexer.specs.Word.{wordAt, wordFault}
+use Rattle.lexer.specs.declared.Word.{Word}
+use Rattle.linker.specs.Seen.{seenIn}
 use Rattle.scene.specs.declared.Settings.{Settings}
+use Rattle.statement.specs.Heads.{kindStep, modifierStep, nameStep, targetStep}
+use Rattle.statement.specs.States.{isIdle, movedTo, openingOf}
+use Rattle.statement.specs.declared.Opening.{Opening}
+use Rattle.statement.specs.declared.Phase.{Phase}
 use Rattle.statement.specs.declared.Seen.{Seen}
 use Rattle.statement.specs.declared.State.{State}
 use Rattle.statement.specs.declared.Step.{Step}
-use Rattle.scene.specs.HouseRules.{houseRules, breachAt}
-use Rattle.scene.specs.Types.{stringsAllowed, realsAllowed}
+use Rattle.statement.specs.declared.Opening.the-variants as opening
 use Rattle.statement.specs.declared.Phase.the-variants as is
 use Rattle.statement.specs.declared.Step.the-variants as to
 
--- ---- drafts with a part of them set
-
--- how many strings
-abbrev pub withStrings : Draft → ℕ → Draft
-withStrings d n = record { kind = d .kind; modifier = d .modifier; target = d .target; name = d .name; size = d .size; string = d .string; strings = n; real = d .real; reals = d .reals }
-
--- the first string's place
-abbrev pub withString : Draft → ℕ → Draft
-withString d p = record { kind = d .kind; modifier = d .modifier; target = d .target; name = d .name; size = d .size; string = p; strings = d .strings; real = d .real; reals = d .reals }
-
--- the first real's index, and how many reals
-abbrev pub withReals : Draft → ℕ → ℕ → Draft
-withReals d u n = record { kind = d .kind; modifier = d .modifier; target = d .target; name = d .name; size = d .size; string = d .string; strings = d .strings; real = u; reals = n }
-
--- ---- a step for each phase
-
--- after a string count come the strings, or the integer count where there are none
-abbrev pub stringsTo : State → ℕ → Step
-stringsTo s zero = goingTo s is.IntegerCount 0 (withStrings (s .draft) 0)
-stringsTo s (suc k) = goingTo s is.FirstString k (withStrings (s .draft) (suc k))
-
--- "12 count badly formed or not allowed"
-abbrev pub stringCounted : State → ℕ → Option ℕ → Step
-stringCounted s p none = to.Refused 12 p
-stringCounted s p (some k) = cond (stringsAllowed (s .draft .kind) k) (stringsTo s k) (to.Refused 12 p)
-
--- the string count's word
-unfoldable pub stringCountStep : Bytes → State → Seen → Step
-stringCountStep w s v = stringCounted s (v .place) (countOf w)
-
--- after a string comes the next one, or the integer count after the last
-abbrev pub stringLeft : State → Draft → ℕ → Step
-stringLeft s d zero = goingTo s is.IntegerCount 0 d
-stringLeft s d (suc k) = goingTo s is.LaterString k d
-
--- a string's word, which may be any
-unfoldable pub stringStep : State → Draft → Step
-stringStep s d = stringLeft s d (s .left)
-
--- "the integer count has the value 0"
-abbrev pub integerCounted : State → ℕ → Option ℕ → Step
-integerCounted s p none = to.Refused 12 p
-integerCounted s p (some zero) = goingTo s is.RealCount 0 (s .draft)
-integerCounted s p (some (suc k)) = to.Refused 12 p
-
--- the integer count's word
-unfoldable pub integerCountStep : Bytes → State → Seen → Step
-integerCountStep w s v = integerCounted s (v .place) (countOf w)
-
--- after a real count come the reals, or the statement ends where there are none
-abbrev pub realsTo : State → ℕ → ℕ → Step
-realsTo s u zero = to.Complete s
-realsTo s u (suc k) = goingTo s is.Real k (withReals (s .draft) u (suc k))
-
--- 12 as for strings, then "13 no room for the reals"
-abbrev pub realCounted : ℕ → State → Seen → Option ℕ → Step
-realCounted room s v none = to.Refused 12 (v .place)
-realCounted room s v (some k) = cond (realsAllowed (s .draft .kind) k) (cond (leb (s .used + k) room) (realsTo s (v .used) k) (to.Refused 13 (v .place))) (to.Refused 12 (v .place))
-
--- the real count's word
-unfoldable pub realCountStep : Bytes → ℕ → State → Seen → Step
-realCountStep w room s v = realCounted room s v (countOf w)
-
--- so many reals are stored, and so many are left after the next
-abbrev pub storedIn : State → (used left : ℕ) → State
-storedIn s u l = record { at = s .at; count = s .count; used = u; left = l; phase = s .phase; draft = s .draft }
-
--- after a real comes the next one, or the statement ends with the last
-abbrev pub realLeft : State → Float → ℕ → Step
-realLeft s x zero = to.Last (storedIn s (s .used + 1) 0) x
-realLeft s x (suc k) = to.Real (storedIn s (s .used + 1) k) x
-
--- the numeral's own reason, then "16 breaks a house rule". The room was tested at the count, so that 13 comes from no state of a
--- reading
-abbrev pub realRead : ℕ → State → Seen → Numeral → Step
-realRead room s v (refusal n) = to.Refused n (v .place)
-realRead room s v (value x) =
-    cond (breachAt houseRules (s .draft .kind) (s .draft .reals - s .left) x (v .previous) (v .first)) (to.Refused 16 (v .place))
-    (cond (ltb (s .used) room) (realLeft s x (s .left)) (to.Refused 13 (v .place)))
-
--- a real's word
-unfoldable pub realStep : Bytes → ℕ → State → Seen → Step
-realStep w room s v = realRead room s v (numeralOf w)
+-- what the text's end comes to: "5 text ends inside a statement", at the text's length
+abbrev pub endOf : Phase → (len : ℕ) → Step
+endOf ph n = cond (isIdle ph) to.Ended (to.Refused 5 n)
 
 -- the step of each phase
 abbrev pub stepOf : Phase → Bytes → Settings → State → Seen → Step
@@ -116,3 +41,24 @@ stepOf is.RealCount w room s v = realCountStep w (room .reals) s v
 stepOf is.Real w room s v = realStep w (room .reals) s v
 stepOf is.AliasName w room s v = nameStep is.Target w s v
 stepOf is.Target w room s v = targetStep s v
+
+-- the step of the word w, taken from the place behind it with what is seen of the tables; a bad word's fault is the reason
+unfoldable pub wordStep : Bytes → List ℕ → List Float → Settings → State → Word → Step
+wordStep text table reals room s w =
+    let b = part text (w .place) (w .len) in
+    let t = movedTo s (w .place + w .len + 1) in
+    cond (eqb (wordFault b) 0) (stepOf (s .phase) b room t (seenIn text table reals t (w .place) b)) (to.Refused (wordFault b) (w .place))
+
+-- the step of what the first byte of w opens: a comment is passed over to its line's end, "4 command"
+abbrev pub openedStep : Opening → Bytes → List ℕ → List Float → Settings → State → Word → Step
+openedStep opening.Comment text table reals room s w = to.Going (movedTo s (past isInLine text (w .place) + 1))
+openedStep opening.Command text table reals room s w = to.Refused 4 (w .place)
+openedStep opening.Word text table reals room s w = wordStep text table reals room s w
+
+-- the step where w stands next: a word of no bytes is the text's end
+abbrev pub standing : Bytes → List ℕ → List Float → Settings → State → Word → Step
+standing text table reals room s w = cond (eqb (w .len) 0) (endOf (s .phase) (length text)) (openedStep (openingOf (s .phase) (getD text (w .place) 0)) text table reals room s w)
+
+-- the step of what stands next in the text
+unfoldable pub nextStep : Bytes → List ℕ → List Float → Settings → State → Step
+nextStep text table reals room s = standing text table reals room s (wordAt text (s .at))

@@ -1,149 +1,28 @@
-// What a word of a scene text does to the open statement: pure steps on values, which touch no lent memory.
+// What stands next in a scene text, and what it does to the open statement: steps on values, which only look at the tables.
 ghost use mathlib.Core.Path.{_≡_};
-ghost use Prim.Native.Nat.{_+_, _-_};
-ghost use lib.Dec.{leb};
-ghost use Rattle.parser.specs.Steps.{integerCountStep, realCountStep, realStep, stepOf, storedIn, stringCountStep, stringStep, withString};
-use numeral::Count;
-use numeral::Numeral;
+ghost use Prim.Native.Nat.{_+_, _≤_};
+ghost use lib.ListN.{length};
+ghost use Rattle.parser.specs.Steps.{endOf, nextStep, stepOf, wordStep};
+use lexer::Word;
 use scene::Settings;
-use statement::Draft;
+use statement::Opening;
 use statement::Phase;
 use statement::Seen;
 use statement::State;
 use statement::Step;
-use statement::going;
 
-fn string_count(word: &[u8], s: State, v: Seen) -> Step
-    ensures { λ r. ⌜ r ≡ stringCountStep (now (word .entry)) s v ⌝ }
+// What the text's end comes to.
+fn at_end(phase: Phase, len: usize) -> Step
+    ensures { λ r. ⌜ r ≡ endOf phase len ⌝ }
 {
-    match numeral::count_of(word) {
-        Count::Malformed => Step::Refused(12, v.place),
-        Count::Value(n) => {
-            let mut d = s.draft;
-            if kinds::strings_allowed(d.kind, n) {
-                d.strings = n;
-                if n == 0 {
-                    return going(s, Phase::IntegerCount, 0, d);
-                }
-                return going(s, Phase::FirstString, n - 1, d);
-            }
-            Step::Refused(12, v.place)
-        }
+    if statement::is_idle(phase) {
+        return Step::Ended;
     }
+    Step::Refused(5, len)
 }
 
-fn string(s: State, d: Draft) -> Step
-    ensures { λ r. ⌜ r ≡ stringStep s d ⌝ }
-{
-    if s.left == 0 {
-        return going(s, Phase::IntegerCount, 0, d);
-    }
-    going(s, Phase::LaterString, s.left - 1, d)
-}
-
-fn first_string(s: State, v: Seen) -> Step
-    ensures { λ r. ⌜ r ≡ stringStep s (withString (s .draft) (v .name)) ⌝ }
-{
-    let mut d = s.draft;
-    d.string = v.name;
-    string(s, d)
-}
-
-fn later_string(s: State) -> Step
-    ensures { λ r. ⌜ r ≡ stringStep s (s .draft) ⌝ }
-{
-    let d = s.draft;
-    string(s, d)
-}
-
-fn integer_count(word: &[u8], s: State, v: Seen) -> Step
-    ensures { λ r. ⌜ r ≡ integerCountStep (now (word .entry)) s v ⌝ }
-{
-    match numeral::count_of(word) {
-        Count::Malformed => Step::Refused(12, v.place),
-        Count::Value(n) => {
-            if n == 0 {
-                let d = s.draft;
-                return going(s, Phase::RealCount, 0, d);
-            }
-            Step::Refused(12, v.place)
-        }
-    }
-}
-
-// Whether n more reals fit a room of which some are used.
-fn fits(used: usize, n: u32, room: usize) -> bool
-    ensures { λ r. ⌜ r ≡ leb (used + n) room ⌝ }
-{
-    if used <= room {
-        return n as usize <= room - used;
-    }
-    false
-}
-
-fn real_count(word: &[u8], room: usize, s: State, v: Seen) -> Step
-    ensures { λ r. ⌜ r ≡ realCountStep (now (word .entry)) room s v ⌝ }
-{
-    match numeral::count_of(word) {
-        Count::Malformed => Step::Refused(12, v.place),
-        Count::Value(n) => {
-            let mut d = s.draft;
-            if kinds::reals_allowed(d.kind, n) {
-                if fits(s.used, n, room) {
-                    if n == 0 {
-                        return Step::Complete(s);
-                    }
-                    d.real = v.used;
-                    d.reals = n;
-                    return going(s, Phase::Real, n - 1, d);
-                }
-                return Step::Refused(13, v.place);
-            }
-            Step::Refused(12, v.place)
-        }
-    }
-}
-
-// The state once so many reals are stored, with so many left after the next.
-fn stored(s: State, used: usize, left: u32) -> State
-    ensures { λ r. ⌜ r ≡ storedIn s used left ⌝ }
-{
-    let mut t = s;
-    t.used = used;
-    t.left = left;
-    t
-}
-
-fn less(a: u32, b: u32) -> u32
-    ensures { λ r. ⌜ r ≡ a - b ⌝ }
-{
-    if a < b { 0 } else { a - b }
-}
-
-fn real(word: &[u8], room: usize, s: State, v: Seen) -> Step
-    ensures { λ r. ⌜ r ≡ realStep (now (word .entry)) room s v ⌝ }
-{
-    match numeral::numeral_of(word) {
-        Numeral::Malformed => Step::Refused(14, v.place),
-        Numeral::TooLarge => Step::Refused(15, v.place),
-        Numeral::Value(x) => {
-            let d = s.draft;
-            if kinds::breaches(d.kind, less(d.reals, s.left), x, v.previous, v.first) {
-                return Step::Refused(16, v.place);
-            }
-            if room <= s.used {
-                return Step::Refused(13, v.place);
-            }
-            if s.left == 0 {
-                return Step::Last(stored(s, s.used + 1, 0), x);
-            }
-            Step::Real(stored(s, s.used + 1, s.left - 1), x)
-        }
-    }
-}
-
-// What a word comes to in the phase that the state is in.
-pub fn advance(word: &[u8], settings: Settings, s: State, v: Seen) -> Step
+// What a good word comes to in the phase that the state is in.
+fn advance(word: &[u8], settings: Settings, s: State, v: Seen) -> Step
     ensures { λ r. ⌜ r ≡ stepOf (s .phase) (now (word .entry)) settings s v ⌝ }
 {
     let phase = s.phase;
@@ -151,13 +30,56 @@ pub fn advance(word: &[u8], settings: Settings, s: State, v: Seen) -> Step
         Phase::Idle => statement::modifier(word, settings.records, s, v),
         Phase::Kind => statement::kind(word, s, v),
         Phase::Name => statement::name(Phase::StringCount, word, s, v),
-        Phase::StringCount => string_count(word, s, v),
-        Phase::FirstString => first_string(s, v),
-        Phase::LaterString => later_string(s),
-        Phase::IntegerCount => integer_count(word, s, v),
-        Phase::RealCount => real_count(word, settings.reals, s, v),
-        Phase::Real => real(word, settings.reals, s, v),
+        Phase::StringCount => arguments::string_count(word, s, v),
+        Phase::FirstString => arguments::first_string(s, v),
+        Phase::LaterString => arguments::later_string(s),
+        Phase::IntegerCount => arguments::integer_count(word, s, v),
+        Phase::RealCount => arguments::real_count(word, settings.reals, s, v),
+        Phase::Real => arguments::real(word, settings.reals, s, v),
         Phase::AliasName => statement::name(Phase::Target, word, s, v),
         Phase::Target => statement::target(s, v),
+    }
+}
+
+// What a word of the text comes to.
+fn word_step(
+    text: &[u8],
+    records: &[u32],
+    reals: &[f64],
+    settings: Settings,
+    s: State,
+    word: Word,
+) -> Step
+    requires { ⌜ word .place + word .len ≤ length (now text) ⌝ }
+    ensures { λ r. ⌜ r ≡ wordStep (now (text .entry)) (now (records .entry)) (now (reals .entry)) settings s word ⌝ }
+{
+    let place = word.place;
+    let bytes = lexer::part(text, place, word.len);
+    let fault = lexer::word_fault(bytes);
+    if fault != 0 {
+        return Step::Refused(fault as u32, place);
+    }
+    let t = statement::moved(s, place + word.len + 1);
+    let seen = linker::look(text, records, reals, t, place, bytes);
+    advance(bytes, settings, t, seen)
+}
+
+// What the next word, comment or command, or the text's end, comes to.
+pub fn next_step(text: &[u8], records: &[u32], reals: &[f64], settings: Settings, s: State) -> Step
+    ensures { λ r. ⌜ r ≡ nextStep (now (text .entry)) (now (records .entry)) (now (reals .entry)) settings s ⌝ }
+{
+    let word = lexer::next_word(text, s.at);
+    let phase = s.phase;
+    if word.len == 0 {
+        return at_end(phase, text.len());
+    }
+    let place = word.place;
+    match statement::opens(phase, text[place]) {
+        Opening::Comment => {
+            let end = lexer::line_end(text, place);
+            Step::Going(statement::moved(s, end + 1))
+        }
+        Opening::Command => Step::Refused(4, place),
+        Opening::Word => word_step(text, records, reals, settings, s, word),
     }
 }

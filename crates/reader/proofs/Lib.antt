@@ -1,9 +1,4 @@
-pub mod StepLaws
-pub mod PhaseLaws
-pub mod MoveLaws
-pub mod WordLaws
-pub mod ReadyLaws
+pub mod ReadsLaws
 pub mod EndLaws
 pub mod ExchangeLaws
-pub mod ReadsLaws
 pub mod LinkLaws

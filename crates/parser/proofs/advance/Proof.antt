@@ -1,6 +1,6 @@
 -- `parser::advance` meets its contract.
 use borrow.Author.Needs.{needs}
-use Rattle.parser.proofs.AnswerLaws.{in-phase}
+use Rattle.parser.proofs.StepLaws.{in-phase}
 use Rattle.parser.proofs.advance.Statement.{statement}
 use Rattle.parser.proofs.advance.Tie as tie
 

@@ -1,0 +1,82 @@
+-- How reading begins and ends: one law for each.
+use mathlib.Core.Bool.{Bool, cond}
+use mathlib.Core.List.{List, [], _++_}
+use mathlib.Core.Path.{_≡_, refl, ap, sym, _∙_}
+use Prim.Native.Nat.{ℕ, _≤_, _<_}
+use native.Mathlib.Nat.{sub-zero}
+use native.Mathlib.Omega.{arith}
+use borrow.Author.Tests.{le-leb, lt-leb}
+use lib.Ieee.{Float}
+use lib.ListN.{length, length-replicate, replicate}
+use Rattle.driver.specs.Ending.{Ends, ending}
+use Rattle.driver.specs.Invariant.{Accepts, Inv, result}
+use Rattle.driver.specs.declared.End.the-variants.{Accepted, Refused}
+use Rattle.laws.specs.Bytes.{Bytes}
+use Rattle.scene.specs.HouseRules.{zeroReal}
+use Rattle.scene.specs.Links.{realsUsed}
+use Rattle.scene.specs.Phase.{idle}
+use Rattle.scene.specs.Reading.{run, read, newline, Reading, accepted, statements, refused}
+use Rattle.scene.specs.Record.{settingsFor, recordsFrom, recordImage, filled, flat, realTable, records, realImage}
+use Rattle.scene.specs.declared.Settings.{Settings}
+use Rattle.statement.specs.States.{between}
+use Rattle.statement.specs.declared.State.{State}
+use Rattle.scene.specs.Record as table-of
+
+short-read : (R : Settings) (text : Bytes) → length text ≤ 65536 → read R text ≡ result text R
+unfolding read
+short-read R text h = ap (λ (b : Bool). cond b (result text R) (refused 1 0)) (le-leb (length text) 65536 h)
+
+-- the tables as they were lent
+module _ (text : Bytes) (T₀ : List ℕ) (D₀ : List Float) where
+  abbrev reading : Reading
+  reading = read (settingsFor (length T₀) (length D₀)) text
+
+  refuses-with : (n p : ℕ) (T : List ℕ) (D : List Float) → reading ≡ refused n p → Ends text T₀ D₀ (Refused n p) T D
+  refuses-with n p T D e = record {
+    says = ap ending (sym e);
+    table = λ m k q. let z : _≡_ {A = ℕ} 0 1 = cc in absurd (omega arith);
+    doubles = λ m k q. let z : _≡_ {A = ℕ} 0 1 = cc in absurd (omega arith);
+  }
+
+  pub too-long : 65536 < length text → (T : List ℕ) (D : List Float) → Ends text T₀ D₀ (Refused 1 0) T D
+  unfolding read
+  too-long h T D = refuses-with 1 0 T D (ap (λ (b : Bool). cond b (result text (settingsFor (length T₀) (length D₀))) (refused 1 0)) (lt-leb (length text) 65536 h))
+
+  -- the tables when reading ends
+  module _ (T : List ℕ) (D : List Float) (room : Settings) (s : State) (I : Inv text T D room s) (l : length T ≡ length T₀) (m : length D ≡ length D₀) where
+    reads-as : reading ≡ result text room
+    reads-as = ap (λ (z : Settings). read z text) (sym (I .settings ∙ (λ i. settingsFor (l i) (m i)))) ∙ short-read room text (I .short)
+
+    pub ends-refused : (n p : ℕ) → result text room ≡ refused n p → Ends text T₀ D₀ (Refused n p) T D
+    ends-refused n p e = refuses-with n p T D (reads-as ∙ e)
+
+    pub ends-accepted : (n k : ℕ) → Accepts text T D room n k → Ends text T₀ D₀ (Accepted n k) T D
+    unfolding recordImage realImage
+    ends-accepted n k A =
+        let e : reading ≡ accepted (A .entries) = reads-as ∙ A .accepts in
+        record {
+          says = (λ i. Accepted (A .count i) (A .used i)) ∙ ap ending (sym e);
+          table = λ n k q. A .stored ∙ ap (λ (z : ℕ). filled 0 z (flat text (records (A .entries)))) l ∙ ap (recordImage text (length T₀)) (sym e);
+          doubles = λ n k q. A .doubles ∙ ap (λ (z : ℕ). filled zeroReal z (realTable (A .entries))) m ∙ ap (realImage (length D₀)) (sym e);
+        }
+
+  -- two cleared tables
+  pub first-inv : (T : List ℕ) (D : List Float) → T ≡ replicate (length T₀) 0 → D ≡ replicate (length D₀) zeroReal → length text ≤ 65536 → (R : Settings) → R ≡ settingsFor (length T) (length D) → Inv text T D R (between 0 0 0)
+  unfolding run statements realsUsed records recordsFrom flat table-of.reals
+  first-inv T D t d h R q =
+      let lt : length T ≡ length T₀ = ap length t ∙ length-replicate (length T₀) 0 in
+      let ld : length D ≡ length D₀ = ap length d ∙ length-replicate (length D₀) zeroReal in
+      record {
+        done = [];
+        rest = text ++ newline;
+        phase = idle;
+        places = record { word = 0; start = 0; name = 0; string = 0 };
+        above = [];
+        whole = refl;
+        reach = refl;
+        is = refl;
+        stored = t ∙ ap (λ (n : ℕ). replicate n 0) (sym lt ∙ sym (sub-zero (length T)));
+        doubles = d ∙ ap (λ (n : ℕ). replicate n zeroReal) (sym ld ∙ sym (sub-zero (length D)));
+        settings = q;
+        short = h;
+      }

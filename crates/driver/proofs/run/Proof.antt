@@ -1,0 +1,250 @@
+-- `driver::run` meets its contract.
+use mathlib.Core.Path.{_≡_, refl, sym, subst, _∙_}
+use Prim.Native.Nat.{_+_, _-_}
+use native.Mathlib.Omega.{arith}
+use borrow.Author.Needs.{needs}
+use lib.ListN.{length, length-set}
+use Rattle.driver.proofs.EndLaws.{ends-accepted, ends-refused, first-inv, too-long}
+use Rattle.driver.proofs.MoveLaws.{gets-on}
+use Rattle.driver.proofs.NextLaws.{ready}
+use Rattle.driver.specs.Invariant.{Inv}
+use Rattle.driver.proofs.run.Statement.{statement}
+use Rattle.driver.proofs.run.Tie as tie
+
+abbrev Inv-loop : tie.InvT-loop
+Inv-loop text records₀ reals₀ settings s₀ records reals s = Inv text records reals settings s × (length records ≡ length records₀) × (length reals ≡ length reals₀)
+
+abbrev μ-loop : tie.MeasureT-loop
+μ-loop text records₀ reals₀ settings s₀ records reals s = length text + 1 - s .at
+
+clear-requires : tie.Need-clear-requires Inv-loop μ-loop
+clear-requires c κs = search needs
+
+same-length : tie.Need-same-length Inv-loop μ-loop
+same-length c = search needs
+
+same-length-2 : tie.Need-same-length-2 Inv-loop μ-loop
+same-length-2 c = search needs
+
+returns : tie.Need-returns Inv-loop μ-loop
+returns c = let a = c .before .before .before .before .before .before .before .before .before .before .before .args in too-long (a .text .now) (a .records .now) (a .reals .now) (c .if1 .taken) _ _
+
+settings-for-requires : tie.Need-settings-for-requires Inv-loop μ-loop
+settings-for-requires c κs = search needs
+
+between-requires : tie.Need-between-requires Inv-loop μ-loop
+between-requires c κs = search needs
+
+loop-holds : tie.Need-loop-holds Inv-loop μ-loop
+unfolding lib.Ieee.ofBits
+loop-holds c =
+    let at-if1 = c .before .before in
+    let at-clear = at-if1 .before .before .before .before .before in
+    let a = at-clear .before .before .before .before .before .before .args in
+    (subst (Inv _ _ _ _) (sym (c .between .ensures)) (first-inv _ (a .records .now) (a .reals .now) _ _ (at-clear .clear .ensures .0) (at-clear .clear .ensures .1) (at-if1 .if1 .left) _ (c .before .settings-for .ensures)), refl, refl)
+
+next-step-requires : tie.Need-next-step-requires Inv-loop μ-loop
+next-step-requires c κs = search needs
+
+enum-known-t : tie.Need-enum-known-t Inv-loop μ-loop
+enum-known-t c = search needs
+
+loop-less : tie.Need-loop-less Inv-loop μ-loop
+loop-less c =
+    let at-step = c .before .before .before in
+    let at-loop = at-step .before .before .before in
+    let r = ready _ _ _ _ _ (at-loop .loop .inv .0) _ _ (at-step .next-step .ensures) (c .before .t .given .1) in
+    gets-on _ _ _ _ _ (r .0) _ (r .1)
+
+loop-again : tie.Need-loop-again Inv-loop μ-loop
+loop-again c =
+    let at-step = c .before .before .before in
+    let at-loop = at-step .before .before .before in
+    let r = ready _ _ _ _ _ (at-loop .loop .inv .0) _ _ (at-step .next-step .ensures) (c .before .t .given .1) in
+    (r .0, at-loop .loop .inv .1, at-loop .loop .inv .2)
+
+enum-known-t-2 : tie.Need-enum-known-t-2 Inv-loop μ-loop
+enum-known-t-2 c = search needs
+
+mul-reals : tie.Need-mul-reals Inv-loop μ-loop
+mul-reals c =
+    let at-step = c .before .before .before in
+    let at-loop = at-step .before .before .before in
+    let r = ready _ _ _ _ _ (at-loop .loop .inv .0) _ _ (at-step .next-step .ensures) (c .before .t2 .given .1) in
+    omega (arith, r .0, at-loop .loop .inv .2, at-loop .before .before .before .before .before .before .before .before .clear .kept .1 .0, at-loop .before .before .before .before .before .before .before .before .before .before .before .before .before .before .good .1 .1 .0 .1)
+
+slice-write-reals : tie.Need-slice-write-reals Inv-loop μ-loop
+slice-write-reals c =
+    let at-step = c .before .before .before in
+    let at-loop = at-step .before .before .before in
+    let r = ready _ _ _ _ _ (at-loop .loop .inv .0) _ _ (at-step .next-step .ensures) (c .before .t2 .given .1) in
+    r .0
+
+loop-less-2 : tie.Need-loop-less-2 Inv-loop μ-loop
+loop-less-2 c =
+    let at-step = c .before .before .before in
+    let at-loop = at-step .before .before .before in
+    let r = ready _ _ _ _ _ (at-loop .loop .inv .0) _ _ (at-step .next-step .ensures) (c .before .t2 .given .1) in
+    let x = r .1 _ refl in gets-on _ _ _ _ _ (x .0) _ (x .1)
+
+loop-again-2 : tie.Need-loop-again-2 Inv-loop μ-loop
+loop-again-2 c =
+    let at-step = c .before .before .before in
+    let at-loop = at-step .before .before .before in
+    let r = ready _ _ _ _ _ (at-loop .loop .inv .0) _ _ (at-step .next-step .ensures) (c .before .t2 .given .1) in
+    (r .1 _ refl .0, at-loop .loop .inv .1, simp length-set (at-loop .loop .inv .2))
+
+enum-known-t-3 : tie.Need-enum-known-t-3 Inv-loop μ-loop
+enum-known-t-3 c = search needs
+
+mul-reals-2 : tie.Need-mul-reals-2 Inv-loop μ-loop
+mul-reals-2 c =
+    let at-step = c .before .before .before in
+    let at-loop = at-step .before .before .before in
+    let r = ready _ _ _ _ _ (at-loop .loop .inv .0) _ _ (at-step .next-step .ensures) (c .before .t3 .given .1) in
+    omega (arith, r .0, at-loop .loop .inv .2, at-loop .before .before .before .before .before .before .before .before .clear .kept .1 .0, at-loop .before .before .before .before .before .before .before .before .before .before .before .before .before .before .good .1 .1 .0 .1)
+
+slice-write-reals-2 : tie.Need-slice-write-reals-2 Inv-loop μ-loop
+slice-write-reals-2 c =
+    let at-step = c .before .before .before in
+    let at-loop = at-step .before .before .before in
+    let r = ready _ _ _ _ _ (at-loop .loop .inv .0) _ _ (at-step .next-step .ensures) (c .before .t3 .given .1) in
+    r .0
+
+enter-requires : tie.Need-enter-requires Inv-loop μ-loop
+enter-requires c κs = search needs
+
+add-between : tie.Need-add-between Inv-loop μ-loop
+add-between c =
+    let at-step = c .before .before .before .before .before .before .before .before .before in
+    let at-loop = at-step .before .before .before in
+    let r = ready _ _ _ _ _ (at-loop .loop .inv .0) _ _ (at-step .next-step .ensures) (c .before .before .before .before .before .before .before .t3 .given .1) in
+    omega (arith, r .1)
+
+between-requires-2 : tie.Need-between-requires-2 Inv-loop μ-loop
+between-requires-2 c κs = search needs
+
+loop-less-3 : tie.Need-loop-less-3 Inv-loop μ-loop
+loop-less-3 c =
+    let at-step = c .before .before .before .before .before .before .before .before .before .before in
+    let at-loop = at-step .before .before .before in
+    let r = ready _ _ _ _ _ (at-loop .loop .inv .0) _ _ (at-step .next-step .ensures) (c .before .before .before .before .before .before .before .before .t3 .given .1) in
+    let x = r .2 _ _ _ refl (c .before .before .before .before .enter .ensures) (c .before .before .before .before .enter .kept .1 .0) (c .between2 .ensures) in gets-on _ _ _ _ _ (x .0) _ (x .1)
+
+loop-again-3 : tie.Need-loop-again-3 Inv-loop μ-loop
+loop-again-3 c =
+    let at-step = c .before .before .before .before .before .before .before .before .before .before in
+    let at-loop = at-step .before .before .before in
+    let r = ready _ _ _ _ _ (at-loop .loop .inv .0) _ _ (at-step .next-step .ensures) (c .before .before .before .before .before .before .before .before .t3 .given .1) in
+    (r .2 _ _ _ refl (c .before .before .before .before .enter .ensures) (c .before .before .before .before .enter .kept .1 .0) (c .between2 .ensures) .0, c .before .before .before .before .enter .kept .1 .0 ∙ at-loop .loop .inv .1, simp length-set (at-loop .loop .inv .2))
+
+enum-known-t-4 : tie.Need-enum-known-t-4 Inv-loop μ-loop
+enum-known-t-4 c = search needs
+
+enter-requires-2 : tie.Need-enter-requires-2 Inv-loop μ-loop
+enter-requires-2 c κs = search needs
+
+add-between-2 : tie.Need-add-between-2 Inv-loop μ-loop
+add-between-2 c =
+    let at-step = c .before .before .before .before .before .before .before .before .before in
+    let at-loop = at-step .before .before .before in
+    let r = ready _ _ _ _ _ (at-loop .loop .inv .0) _ _ (at-step .next-step .ensures) (c .before .before .before .before .before .before .before .t4 .given .1) in
+    omega (arith, r .0)
+
+between-requires-3 : tie.Need-between-requires-3 Inv-loop μ-loop
+between-requires-3 c κs = search needs
+
+loop-less-4 : tie.Need-loop-less-4 Inv-loop μ-loop
+loop-less-4 c =
+    let at-step = c .before .before .before .before .before .before .before .before .before .before in
+    let at-loop = at-step .before .before .before in
+    let r = ready _ _ _ _ _ (at-loop .loop .inv .0) _ _ (at-step .next-step .ensures) (c .before .before .before .before .before .before .before .before .t4 .given .1) in
+    let x = r .1 _ _ (c .before .before .before .before .enter2 .ensures) (c .before .before .before .before .enter2 .kept .1 .0) (c .between3 .ensures) in gets-on _ _ _ _ _ (x .0) _ (x .1)
+
+loop-again-4 : tie.Need-loop-again-4 Inv-loop μ-loop
+loop-again-4 c =
+    let at-step = c .before .before .before .before .before .before .before .before .before .before in
+    let at-loop = at-step .before .before .before in
+    let r = ready _ _ _ _ _ (at-loop .loop .inv .0) _ _ (at-step .next-step .ensures) (c .before .before .before .before .before .before .before .before .t4 .given .1) in
+    (r .1 _ _ (c .before .before .before .before .enter2 .ensures) (c .before .before .before .before .enter2 .kept .1 .0) (c .between3 .ensures) .0, c .before .before .before .before .enter2 .kept .1 .0 ∙ at-loop .loop .inv .1, at-loop .loop .inv .2)
+
+enum-known-reason : tie.Need-enum-known-reason Inv-loop μ-loop
+enum-known-reason c = search needs
+
+same-length-3 : tie.Need-same-length-3 Inv-loop μ-loop
+same-length-3 c = c .before .before .before .before .before .before .loop .inv .1 ∙ c .before .before .before .before .before .before .before .before .before .before .before .before .before .before .clear .kept .0
+
+same-length-4 : tie.Need-same-length-4 Inv-loop μ-loop
+same-length-4 c = c .before .before .before .before .before .before .loop .inv .2 ∙ c .before .before .before .before .before .before .before .before .before .before .before .before .before .before .clear .kept .1 .0
+
+returns-2 : tie.Need-returns-2 Inv-loop μ-loop
+returns-2 c =
+    let at-step = c .before .before .before in
+    let at-loop = at-step .before .before .before in
+    let r = ready _ _ _ _ _ (at-loop .loop .inv .0) _ _ (at-step .next-step .ensures) (c .before .reason .given .1) in
+    let at-clear = at-loop .before .before .before .before .before .before .before .before in
+    let a = at-clear .before .before .before .before .before .before .args in
+    ends-refused (a .text .now) (a .records .now) (a .reals .now) _ _ _ _ (at-loop .loop .inv .0) (at-loop .loop .inv .1 ∙ at-clear .clear .kept .0) (at-loop .loop .inv .2 ∙ at-clear .clear .kept .1 .0) _ _ r
+
+enum-told : tie.Need-enum-told Inv-loop μ-loop
+enum-told c = search needs
+
+same-length-5 : tie.Need-same-length-5 Inv-loop μ-loop
+same-length-5 c = c .before .before .before .before .before .loop .inv .1 ∙ c .before .before .before .before .before .before .before .before .before .before .before .before .before .clear .kept .0
+
+same-length-6 : tie.Need-same-length-6 Inv-loop μ-loop
+same-length-6 c = c .before .before .before .before .before .loop .inv .2 ∙ c .before .before .before .before .before .before .before .before .before .before .before .before .before .clear .kept .1 .0
+
+returns-3 : tie.Need-returns-3 Inv-loop μ-loop
+returns-3 c =
+    let at-step = c .before .before in
+    let at-loop = at-step .before .before .before in
+    let r = ready _ _ _ _ _ (at-loop .loop .inv .0) _ _ (at-step .next-step .ensures) (c .enum-told .given .1) in
+    let at-clear = at-loop .before .before .before .before .before .before .before .before in
+    let a = at-clear .before .before .before .before .before .before .args in
+    ends-accepted (a .text .now) (a .records .now) (a .reals .now) _ _ _ _ (at-loop .loop .inv .0) (at-loop .loop .inv .1 ∙ at-clear .clear .kept .0) (at-loop .loop .inv .2 ∙ at-clear .clear .kept .1 .0) _ _ r
+
+pub run-spec : {M : Type 1} → statement M
+run-spec =
+    tie.close
+    (tie.spec
+    Inv-loop
+    μ-loop
+    clear-requires
+    same-length
+    same-length-2
+    returns
+    settings-for-requires
+    between-requires
+    loop-holds
+    next-step-requires
+    enum-known-t
+    loop-less
+    loop-again
+    enum-known-t-2
+    mul-reals
+    slice-write-reals
+    loop-less-2
+    loop-again-2
+    enum-known-t-3
+    mul-reals-2
+    slice-write-reals-2
+    enter-requires
+    add-between
+    between-requires-2
+    loop-less-3
+    loop-again-3
+    enum-known-t-4
+    enter-requires-2
+    add-between-2
+    between-requires-3
+    loop-less-4
+    loop-again-4
+    enum-known-reason
+    same-length-3
+    same-length-4
+    returns-2
+    enum-told
+    same-length-5
+    same-length-6
+    returns-3)

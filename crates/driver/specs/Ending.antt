@@ -1,0 +1,22 @@
+-- How reading a text into two lent tables ends, and what they hold then.
+use mathlib.Core.List.{List}
+use mathlib.Core.Path.{_≡_}
+use Prim.Native.Nat.{ℕ}
+use lib.Ieee.{Float}
+use lib.ListN.{length}
+use Rattle.driver.specs.declared.End.{End}
+use Rattle.driver.specs.declared.End.the-variants.{Accepted, Refused}
+use Rattle.laws.specs.Bytes.{Bytes}
+use Rattle.scene.specs.Reading.{Reading, accepted, read, refused}
+use Rattle.scene.specs.Record.{realImage, realTable, recordImage, settingsFor}
+
+-- the end that a reading comes to
+abbrev pub ending : Reading → End
+ending (refused n p) = Refused n p
+ending (accepted es) = Accepted (length es) (length (realTable es))
+
+-- one call: the tables as they were lent, how it ends, and the tables at exit, which after a refusal may hold anything
+pub record Ends (text : Bytes) (records : List ℕ) (reals : List Float) (r : End) (records′ : List ℕ) (reals′ : List Float) : Type 0 where
+  pub says : r ≡ ending (read (settingsFor (length records) (length reals)) text)
+  pub table : (n k : ℕ) → r ≡ Accepted n k → records′ ≡ recordImage text (length records) (read (settingsFor (length records) (length reals)) text)
+  pub doubles : (n k : ℕ) → r ≡ Accepted n k → reals′ ≡ realImage (length reals) (read (settingsFor (length records) (length reals)) text)

@@ -1,0 +1,5 @@
+-- Inner models of the proofs.
+pub mod Ending
+pub mod Image
+pub mod Invariant
+pub mod Goes

@@ -1,0 +1,52 @@
+-- `parser::word_step` meets its contract.
+use borrow.Author.Needs.{needs}
+use Rattle.parser.proofs.StepLaws.{word-faulty, word-good}
+use Rattle.parser.proofs.word_step.Statement.{statement}
+use Rattle.parser.proofs.word_step.Tie as tie
+
+part-requires : tie.Need-part-requires
+part-requires c κs = search needs
+
+word-fault-requires : tie.Need-word-fault-requires
+word-fault-requires c κs = search needs
+
+cast-t13 : tie.Need-cast-t13
+cast-t13 c = search needs
+
+returns : tie.Need-returns
+returns c = word-faulty _ _ _ _ _ _ _ _ (c .before .before .part .ensures) (c .before .word-fault .ensures) (c .if1 .taken)
+
+add-moved : tie.Need-add-moved
+add-moved c = search needs
+
+add-moved-2 : tie.Need-add-moved-2
+add-moved-2 c = search needs
+
+moved-requires : tie.Need-moved-requires
+moved-requires c κs = search needs
+
+look-requires : tie.Need-look-requires
+look-requires c κs = search needs
+
+advance-requires : tie.Need-advance-requires
+advance-requires c κs = search needs
+
+returns-2 : tie.Need-returns-2
+returns-2 c =
+    let at-if1 = c .before .before .before .before in
+    word-good _ _ _ _ _ _ _ _ (at-if1 .before .before .part .ensures) (at-if1 .before .word-fault .ensures) (at-if1 .if1 .left) _ _ _ (c .before .before .moved .ensures) (c .before .look .ensures) (c .advance .ensures)
+
+pub word-step-spec : {M : Type 1} → statement M
+word-step-spec =
+    tie.close
+    (tie.spec
+    part-requires
+    word-fault-requires
+    cast-t13
+    returns
+    add-moved
+    add-moved-2
+    moved-requires
+    look-requires
+    advance-requires
+    returns-2)

@@ -39,7 +39,7 @@ enum kribbelsteen_field {
     KRIBBELSTEEN_STRINGS = 6,      /* how many strings */
     KRIBBELSTEEN_REAL = 7,         /* index of the first real in the table of reals, 0 also if there is none */
     KRIBBELSTEEN_REALS = 8,        /* how many reals */
-    KRIBBELSTEEN_NEXT = 9          /* the next primitive of the same name, 0 if there is none */
+    KRIBBELSTEEN_NEXT = 9          /* the next primitive of the same name, surfaces left out; 0 if there is none, and for a surface */
 };
 
 /* Why something is refused. */
@@ -56,7 +56,6 @@ enum kribbelsteen_reason {
     KRIBBELSTEEN_UNKNOWN_TYPE = 8,      /* unknown type (type) */
     KRIBBELSTEEN_NAME_IS_VOID = 9,      /* the name is `void` (name) */
     KRIBBELSTEEN_NO_TARGET = 10,        /* alias target not defined above (target) */
-    KRIBBELSTEEN_SURFACE_TARGET = 11,   /* alias target is a surface (target) */
     KRIBBELSTEEN_BAD_COUNT = 12,        /* count badly formed or not allowed (count) */
     KRIBBELSTEEN_NO_REAL_ROOM = 13,     /* no room for the reals (real count) */
     KRIBBELSTEEN_BAD_NUMERAL = 14,      /* breaks the numeral rule (numeral) */
@@ -104,11 +103,11 @@ uint32_t kribbelsteen_name(const uint8_t *text, size_t text_len, const uint32_t 
                            size_t number, size_t answer[2]);
 
 /* The finish of a primitive: the first material that its modifier links lead to, in a table of `count` records that may hold
- * anything. The primitive's own type does not matter; a surface or a mixfunc on the way is passed through. At most `allowance`
+ * anything. The primitive's own type does not matter; a mixfunc on the way is passed through. At most `allowance`
  * links are followed; one less than the number is enough for every primitive.
  *
  * Returns 0, or refuses: 18 and 17 as kribbelsteen_name does for count and number; on the way 18 for a link that is not below its
- * own primitive, 19 if another link is needed and the allowance is used up, 18 for a reached type outside 1 to 25.
+ * own primitive, 19 if another link is needed and the allowance is used up, 18 for a reached type outside 10 to 25, such as a surface's.
  * answer: the material's number, 0 if there is none, and how many links were followed. A refusal has number 0, and the links are
  * the allowance for 19, else 0. Nothing else is written. */
 uint32_t kribbelsteen_finish(const uint32_t *records, size_t records_len, size_t count, size_t number, size_t allowance,

@@ -27,7 +27,7 @@ def scene_of(rng, most):
     """The statements of an accepted scene, each a list of words."""
     reader, statements = scene.Reader(b"", 1024, 4096), []
     for _ in range(rng.randrange(most + 1)):
-        words = texts.statement(rng, [w[2] for w in statements])
+        words = texts.statement(rng, [w[2] for w in statements if w[1] not in texts.SURFACES])
         used = len(reader.reals)
         reader.text, reader.at = " ".join(words).encode(), 0
         try:

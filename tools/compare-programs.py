@@ -17,7 +17,7 @@ import texts
 import tidy
 
 TOP = pathlib.Path(__file__).resolve().parent.parent
-REASONS = range(17)  # 0 is accepted
+REASONS = [0, *range(1, 11), *range(12, 17)]  # 0 is accepted, and 11 is given no more
 
 
 def every_text(seed, count):

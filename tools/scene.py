@@ -19,6 +19,7 @@ EXACT_REALS = dict(
     plastic=5, metal=5, trans=7, plastic2=6, metal2=6, trans2=8, dielectric=5, interface=8, antimatter=0,
 )
 BLANKS = bytes([9, 10, 11, 12, 13, 32])
+LAST_SURFACE = 9
 
 
 class Refused(Exception):
@@ -93,8 +94,9 @@ class Reader:
         return word, start
 
     def latest(self, name):
+        """The latest definition of a name: surfaces are none."""
         for number in range(len(self.names), 0, -1):
-            if self.names[number - 1] == name:
+            if self.names[number - 1] == name and self.records[number - 1][0] > LAST_SURFACE:
                 return number
         return 0
 
@@ -126,8 +128,6 @@ class Reader:
             if number == 0:
                 raise Refused(10, place)
             source = self.records[number - 1]
-            if source[0] <= 9:
-                raise Refused(11, place)
             record = [source[0], link, number, at, len(name)] + source[5:9] + [0]
         else:
             kind = kind.decode()
@@ -136,7 +136,7 @@ class Reader:
             name, at = self.named()
             record = [TYPES.index(kind) + 1, link, 0, at, len(name)] + self.arguments(kind) + [0]
         earlier = self.latest(name)
-        if earlier:
+        if earlier and record[0] > LAST_SURFACE:
             self.records[earlier - 1][9] = len(self.records) + 1
         self.names.append(name)
         self.records.append(record)
@@ -221,7 +221,7 @@ def finishes(text, record_room=1024, real_room=4096):
 
     lines = []
     for number, r in enumerate(records, 1):
-        if r[0] <= 9:
+        if r[0] <= LAST_SURFACE:
             at, links = finish(records, number)
             lines.append("no=%d type=%s name=%s finish=%d finish_name=%s links=%d\n" % (number, TYPES[r[0] - 1], name(number), at, name(at), links))
     return "".join(lines)

@@ -14,6 +14,7 @@ NUMERALS = "0 1 -1 .5 2. 1e3 -2.5e-3 +7 0.0 -0 100 3.25 1E2 9e-22 12345678901234
 BAD_NUMERALS = ". e5 1e 1.2.3 1e1000 0x1 -".split()
 LARGE_NUMERALS = "1e23 1000000000000000 1e-23 9999999999999999".split()
 LONG = "y" * 65
+SURFACES = scene.TYPES[: scene.LAST_SURFACE]
 
 
 def statement(rng, names):
@@ -67,7 +68,7 @@ def text(rng, most):
         words = statement(rng, names)
         if rng.random() < 0.12:
             spoil(rng, words)
-        else:
+        elif words[1] not in SURFACES or rng.random() < 0.1:
             names.append(words[2])
         blanks = [b" "] * 6 + [b"\n", b"\t", b"  ", b"\r\n", b"\x0b", b"\x0c"]
         out += b"".join(w.encode("latin-1") + rng.choice(blanks) for w in words)

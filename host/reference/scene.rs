@@ -407,9 +407,6 @@ impl<'t, 'm> Reader<'t, 'm> {
         let number = self.lookup(word, 10)?;
         let at = RECORD * (number - 1);
         let found = &self.records[at..at + RECORD];
-        if is_surface(found[TYPE]) {
-            return refuse(11, word.place);
-        }
         Ok([found[TYPE], 0, number as u32, 0, 0, found[5], found[6], found[7], found[8], 0])
     }
 
@@ -463,6 +460,9 @@ impl<'t, 'm> Reader<'t, 'm> {
         let at = RECORD * self.primitives;
         self.records[at..at + RECORD].copy_from_slice(record);
         self.primitives += 1;
+        if is_surface(record[TYPE]) {
+            return; // a surface is no definition
+        }
         if let Some(earlier) = self.latest.insert(name.bytes, self.primitives) {
             self.records[RECORD * (earlier - 1) + NEXT] = self.primitives as u32;
         }
@@ -513,7 +513,7 @@ pub fn finish(records: &[u32], count: usize, number: usize, allowance: usize) ->
         }
         match records[RECORD * (link - 1) + TYPE] {
             kind if is_material(kind) => return Ok((link, links + 1)),
-            1..=25 => at = link,
+            10..=25 => at = link,
             _ => return Err((BAD_TABLE, 0)),
         }
     }

@@ -28,8 +28,6 @@ pub enum Reason {
     NameIsVoid = 9,
     /// The alias target is not defined above.
     NoTarget = 10,
-    /// The alias target is a surface.
-    SurfaceTarget = 11,
     /// A count is badly formed or not allowed.
     BadCount = 12,
     /// The lent table has no room for the reals.
@@ -48,7 +46,7 @@ impl Reason {
         self as u32
     }
 
-    /// The reason of a number; none outside 1 to 16.
+    /// The reason of a number; none outside 1 to 16, and none for 11, which is given no more.
     pub fn from_number(number: u32) -> Option<Reason> {
         Some(match number {
             1 => Reason::TextTooLong,
@@ -61,7 +59,6 @@ impl Reason {
             8 => Reason::UnknownType,
             9 => Reason::NameIsVoid,
             10 => Reason::NoTarget,
-            11 => Reason::SurfaceTarget,
             12 => Reason::BadCount,
             13 => Reason::NoRealRoom,
             14 => Reason::BadNumeral,
@@ -85,7 +82,6 @@ impl fmt::Display for Reason {
             Reason::UnknownType => "unknown type",
             Reason::NameIsVoid => "name is `void`",
             Reason::NoTarget => "alias target not defined above",
-            Reason::SurfaceTarget => "alias target is a surface",
             Reason::BadCount => "count badly formed or not allowed",
             Reason::NoRealRoom => "no room for the reals",
             Reason::BadNumeral => "not a numeral",

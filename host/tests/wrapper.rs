@@ -5,7 +5,7 @@ use std::f64::consts::SQRT_2;
 
 const SAMPLE: &[u8] = b"void plastic wall 0 0 5 .5 .5 .5 0 0\n\
     void plastic wall 0 0 5 .2 .2 .2 0 0\n\
-    wall sphere lamp 0 0 4 0 0 0 1\n\
+    wall mixfunc lamp 4 a b c d 0 4 0 0 0 1\n\
     void alias trim wall\n\
     lamp illum panel 1 trim 0 3 1 2 3\n";
 
@@ -23,7 +23,7 @@ fn a_scene_shows_its_primitives() {
         [
             (1, "plastic", &b"wall"[..], None, None, Some(2)),
             (2, "plastic", b"wall", None, None, None),
-            (3, "sphere", b"lamp", Some(2), None, None),
+            (3, "mixfunc", b"lamp", Some(2), None, None),
             (4, "plastic", b"trim", None, Some(2), None),
             (5, "illum", b"panel", Some(3), None, None),
         ]
@@ -33,6 +33,17 @@ fn a_scene_shows_its_primitives() {
     assert_eq!(panel.strings().map(|word| word.bytes).collect::<Vec<_>>(), [b"trim"]);
     assert_eq!(panel.reals(), [1.0, 2.0, 3.0]);
     assert!(scene.primitive(0).is_none() && scene.primitive(6).is_none());
+}
+
+#[test]
+fn a_surface_hides_no_paint() {
+    let text =
+        b"void plastic wall 0 0 5 .5 .5 .5 0 0\nvoid sphere wall 0 0 4 0 0 0 1\nwall sphere knob 0 0 4 0 0 0 1\n";
+    let (mut records, mut reals) = ([0; RECORD * 3], [0.0; 13]);
+    let scene = Scene::read(text, &mut records, &mut reals).expect("well-formed");
+    let links: Vec<_> = scene.primitives().map(|p| (p.modifier(), p.next_of_name())).collect();
+    assert_eq!(links, [(None, None), (None, None), (Some(1), None)]);
+    assert_eq!(scene.finish(3), Ok(Finish { material: Some(1), links: 1 }));
 }
 
 #[test]
@@ -61,10 +72,10 @@ fn a_refusal_says_reason_and_place() {
 
 #[test]
 fn numbers_and_reasons_agree() {
-    for number in 1..=16 {
+    for number in (1..=16).filter(|number| *number != 11) {
         assert_eq!(Reason::from_number(number).map(Reason::number), Some(number));
     }
-    assert_eq!((Reason::from_number(0), Reason::from_number(17)), (None, None));
+    assert_eq!([0, 11, 17].map(Reason::from_number), [None; 3]);
     for number in 1..=25 {
         let kind = Type::from_number(number).expect("25 types");
         assert_eq!(kind as u32, number);

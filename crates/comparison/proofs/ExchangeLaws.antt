@@ -1,47 +1,67 @@
--- Two neighbouring independent blocks exchanged: against the text before, the new one compares as all same.
+-- Two neighbouring independent blocks that share no name, exchanged: against the text before, the new one compares as all same.
+use mathlib.Core.Bool.{false}
 use mathlib.Core.List.{List, [], _∷_, _++_, map-append}
-use mathlib.Core.Path.{_≡_, refl, ap, sym, _∙_, subst₂}
+use mathlib.Core.Path.{_≡_, refl, ap, sym, _∙_}
 use Prim.Native.Nat.{ℕ, _*_}
 use lib.ListN.{length, take, length-map}
-use Rattle.laws.specs.Bytes.{Bytes}
+use Rattle.laws.proofs.BoolLaws.{or-false-left, or-false-right}
+use Rattle.laws.specs.Bytes.{Bytes, same}
 use Rattle.scene.proofs.AcceptLaws.{accept-forth}
 use Rattle.scene.proofs.BlockLaws.{Parts, parts, read-turned}
-use Rattle.scene.proofs.ExchangeLaws.{exchange-law}
-use Rattle.scene.proofs.IndependentLaws.{clear-first, clear-second}
-use Rattle.scene.proofs.SwapLaws.{Absent, Clear}
-use Rattle.scene.specs.Block.{shift}
-use Rattle.scene.specs.Exchange.{Exchange, exchangeShift}
-use Rattle.scene.specs.Links.{gives, hits}
+use Rattle.scene.specs.Block.{share, shift, stands}
+use Rattle.scene.specs.Exchange.{Exchange, Exchanged, exchangeShift}
 use Rattle.scene.specs.Reading.{Entry, statements, accepted, read}
 use Rattle.scene.specs.Record.{width, recordImage, realImage}
 use Rattle.scene.specs.declared.Settings.{Settings}
 use Rattle.scene.specs.Statement.{Statement}
 use Rattle.scene.specs.Told.{Told, renumbered}
 use Rattle.keys.proofs.NameLaws.{named, names, times-statements, keys-statements}
+use Rattle.keys.proofs.OrderLaws.{same-sym}
 use Rattle.keys.proofs.PartLaws.{Apart, times-kept, keys-kept}
 use Rattle.comparison.proofs.RenumberLaws.{compare-renumbered}
 use Rattle.keys.proofs.RowsLaws.{row, scene-read}
 use Rattle.comparison.specs.Compare.{compared}
+use Rattle.comparison.specs.Exchange.{CompareExchangeLaw, NamesApart, namesOf}
 use Rattle.keys.specs.Key.{times, from, keyOf}
 use Rattle.keys.specs.Rows.{rowsOf, sceneRows}
 
 -- ---- statements that share no name
 
-absent-times : (w : Bytes) (d : List Statement) → Absent w d → times w (names d) ≡ 0
-unfolding times hits gives
-absent-times w [] h = refl
-absent-times w (s ∷ d) h = rw (h .0) (absent-times w d (h .1))
+-- none of some names is t's
+none-named : (xs : List Statement) (t : Statement) (ys : List Bytes) → share (namesOf xs) (t .name ∷ ys) ≡ false → times (t .name) (names xs) ≡ 0
+unfolding share stands namesOf times
+none-named [] t ys h = refl
+none-named (s ∷ xs) t ys h =
+    let e = or-false-left (same (s .name) (t .name)) (stands (s .name) ys) (or-false-left (stands (s .name) (t .name ∷ ys)) (share (namesOf xs) (t .name ∷ ys)) h) in
+    rw (same-sym (t .name) (s .name) ∙ e) (none-named xs t ys (or-false-right (stands (s .name) (t .name ∷ ys)) (share (namesOf xs) (t .name ∷ ys)) h))
 
-clear-apart : (a b : List Statement) → Clear a b → Apart (names a) (names b)
-unfolding gives
-clear-apart [] b h = tt
-clear-apart (s ∷ a) b h = (absent-times (s .name) b (h .0 .name refl), clear-apart a b (h .1))
+fewer : (xs : List Statement) (v : Bytes) (ys : List Bytes) → share (namesOf xs) (v ∷ ys) ≡ false → share (namesOf xs) ys ≡ false
+unfolding share stands namesOf
+fewer [] v ys h = refl
+fewer (s ∷ xs) v ys h =
+    let e = or-false-right (same (s .name) v) (stands (s .name) ys) (or-false-left (stands (s .name) (v ∷ ys)) (share (namesOf xs) (v ∷ ys)) h) in
+    rw e (fewer xs v ys (or-false-right (stands (s .name) (v ∷ ys)) (share (namesOf xs) (v ∷ ys)) h))
+
+not-standing : (w : Bytes) (d : List Statement) → stands w (namesOf d) ≡ false → times w (names d) ≡ 0
+unfolding stands namesOf times
+not-standing w [] h = refl
+not-standing w (s ∷ d) h = rw (or-false-left (same w (s .name)) (stands w (namesOf d)) h) (not-standing w d (or-false-right (same w (s .name)) (stands w (namesOf d)) h))
+
+apart-forth : (a b : List Statement) → share (namesOf a) (namesOf b) ≡ false → Apart (names a) (names b)
+unfolding share namesOf
+apart-forth [] b h = tt
+apart-forth (s ∷ a) b h = (not-standing (s .name) b (or-false-left (stands (s .name) (namesOf b)) (share (namesOf a) (namesOf b)) h), apart-forth a b (or-false-right (stands (s .name) (namesOf b)) (share (namesOf a) (namesOf b)) h))
+
+apart-back : (a b : List Statement) → share (namesOf a) (namesOf b) ≡ false → Apart (names b) (names a)
+unfolding namesOf
+apart-back a [] h = tt
+apart-back a (t ∷ b) h = (none-named a t (namesOf b) h, apart-back a b (fewer a (t .name) (namesOf b) h))
 
 -- ---- the exchange
 
-module _ (r : Settings) (p a b q : Bytes) (es : List Entry) (x : Exchange r p a b q es) where
+module _ (r : Settings) (p a b q : Bytes) (es : List Entry) (x : Exchange r p a b q es) (shares : NamesApart es p a b) (z : Exchanged r p a b q es) where
   abbrev es′ : List Entry
-  es′ = exchange-law r p a b q es x .entries
+  es′ = z .entries
 
   abbrev old : List Told
   old = rowsOf (p ++ a ++ b ++ q) es
@@ -53,7 +73,10 @@ module _ (r : Settings) (p a b q : Bytes) (es : List Entry) (x : Exchange r p a 
   k = parts r p a b q es (x .reads) (x .first) (x .second)
 
   reads′ : read r (p ++ b ++ a ++ q) ≡ accepted es′
-  reads′ = exchange-law r p a b q es x .renumbers .reads
+  reads′ = z .renumbers .reads
+
+  apart : share (namesOf (k .A)) (namesOf (k .B)) ≡ false
+  apart = (λ i. share (namesOf (sym (k .inA) i)) (namesOf (sym (k .inB) i))) ∙ shares
 
   names-old : names (statements es) ≡ names (k .Q) ++ (names (k .B) ++ (names (k .A) ++ names (k .P)))
   names-old = ap names (k .all) ∙ simp map-append
@@ -72,8 +95,7 @@ module _ (r : Settings) (p a b q : Bytes) (es : List Entry) (x : Exchange r p a 
       keys-statements r (p ++ b ++ a ++ q) es′ reads′ (exchangeShift es p a b n)
       ∙ (λ i. keyOf (names-new i) (shift (many _ _ (k .inP) i) (many _ _ (k .inA) i) (many _ _ (k .inB) i) n))
       ∙ keys-kept (names (k .P)) (names (k .A)) (names (k .B)) (names (k .Q))
-      (clear-apart (k .A) (k .B) (subst₂ Clear (k .inA) (k .inB) (clear-first (x .independent))))
-      (clear-apart (k .B) (k .A) (subst₂ Clear (k .inB) (k .inA) (clear-second (x .independent)))) n
+      (apart-forth (k .A) (k .B) apart) (apart-back (k .A) (k .B) apart) n
       ∙ sym (keys-statements r (p ++ a ++ b ++ q) es (x .reads) n ∙ ap (λ (d : List Told). keyOf d n) names-old)
 
   often : (w : Bytes) → times w new ≡ times w old
@@ -82,15 +104,18 @@ module _ (r : Settings) (p a b q : Bytes) (es : List Entry) (x : Exchange r p a 
       ∙ times-kept (names (k .P)) (names (k .A)) (names (k .B)) (names (k .Q)) w
       ∙ sym (times-statements r (p ++ a ++ b ++ q) es (x .reads) w ∙ ap (times w) names-old)
 
-  rows : (n : ℕ) (t u : Told) (y z : List Told) → from n old ≡ t ∷ y → from (exchangeShift es p a b n) new ≡ u ∷ z → u ≡ renumbered (exchangeShift es p a b) t
-  rows n t u y z e g =
+  rows : (n : ℕ) (t u : Told) (y v : List Told) → from n old ≡ t ∷ y → from (exchangeShift es p a b n) new ≡ u ∷ v → u ≡ renumbered (exchangeShift es p a b) t
+  rows n t u y v e g =
       let h = row (p ++ a ++ b ++ q) es (length es) n t y e in
-      let j = row (p ++ b ++ a ++ q) es′ (length es′) (exchangeShift es p a b n) u z g in
-      j .tells≡ ∙ exchange-law r p a b q es x .renumbers .rows n (h .least) (h .most) ∙ ap (renumbered (exchangeShift es p a b)) (sym (h .tells≡))
+      let j = row (p ++ b ++ a ++ q) es′ (length es′) (exchangeShift es p a b n) u v g in
+      j .tells≡ ∙ z .renumbers .rows n (h .least) (h .most) ∙ ap (renumbered (exchangeShift es p a b)) (sym (h .tells≡))
 
-  pub compare-exchange : compared (rowsOf (p ++ a ++ b ++ q) es) (rowsOf (p ++ b ++ a ++ q) (exchange-law r p a b q es x .entries)) ≡ []
-  compare-exchange = compare-renumbered old new (exchangeShift es p a b) keys often rows
+  same-rows : compared (rowsOf (p ++ a ++ b ++ q) es) (rowsOf (p ++ b ++ a ++ q) (z .entries)) ≡ []
+  same-rows = compare-renumbered old new (exchangeShift es p a b) keys often rows
 
   -- also read afresh into tables of any sizes, where those of the records are lent up to the last one
   pub fresh-exchange : (n k m j : ℕ) → compared (sceneRows (p ++ a ++ b ++ q) (take (length es * width) (recordImage (p ++ a ++ b ++ q) n (read r (p ++ a ++ b ++ q)))) (realImage k (read r (p ++ a ++ b ++ q)))) (sceneRows (p ++ b ++ a ++ q) (take (length es′ * width) (recordImage (p ++ b ++ a ++ q) m (read r (p ++ b ++ a ++ q)))) (realImage j (read r (p ++ b ++ a ++ q)))) ≡ []
-  fresh-exchange n k m j = (λ i. compared (scene-read r (p ++ a ++ b ++ q) es (x .reads) n k i) (scene-read r (p ++ b ++ a ++ q) es′ reads′ m j i)) ∙ compare-exchange
+  fresh-exchange n k m j = (λ i. compared (scene-read r (p ++ a ++ b ++ q) es (x .reads) n k i) (scene-read r (p ++ b ++ a ++ q) es′ reads′ m j i)) ∙ same-rows
+
+pub compare-exchange : CompareExchangeLaw
+compare-exchange = same-rows

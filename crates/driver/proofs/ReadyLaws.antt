@@ -142,7 +142,7 @@ module _ (text : Bytes) (table : List ℕ) (reals : List Float) (room : Settings
   finds-here = ap (latestIn text table w) (sym (count-is text table reals room s I)) ∙ finds text table reals room s I w
 
   looked : (latest w d ≡ X) × FoundAs es w (draftIn table X) X
-  looked = (sym finds-here, found-as text table es (I .stored) (fit text table reals room s I .0) w X finds-here)
+  looked = (sym finds-here, found-as text table es (I .stored) w X finds-here)
 
   -- as the code's values stand when the phase is ph
   sees : (ph : Phase) → ph ≡ I .phase → (f : ℕ) → f ≡ lookedFor (image (suc (s .at + len)) d ph (I .places) .phase) X

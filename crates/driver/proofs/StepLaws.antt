@@ -27,7 +27,7 @@ use Rattle.scene.specs.Phase.{integerCount, Outcome, fault, idle, busy, Phase, 
 use Rattle.scene.specs.Reading.{settle, modifierTest, Places, Entry, statements, targetTest, note, roomTest, test, atEnd}
 use Rattle.scene.specs.Record.{recordOf, stringPlace, firstReal, unlessNone}
 use Rattle.scene.specs.Statement.{alias, Statement, Literal, void, numbers, Body, literal, primitive}
-use Rattle.scene.specs.Types.{isSurface, stringsAllowed, realsAllowed, typeNumber}
+use Rattle.scene.specs.Types.{stringsAllowed, realsAllowed, typeNumber}
 use Rattle.scene.specs.declared.Settings.{Settings}
 use Rattle.statement.specs.Heads.{goingTo, modifierStep, withTarget, withName, linkTo, typedAs, kindStep, targetStep, nameStep, targetAt}
 use Rattle.statement.specs.States.{opened}
@@ -251,13 +251,9 @@ module _ (r : Settings) (es : List Entry) (k : Places) (p : ℕ) (w : Bytes) (u 
           reals = refl;
         }
 
-        hit : (q : Bool) (t : ℕ) → t ≡ cond q 11 0 → o ≡ sourceDraft es (resolve w d) → Follows (busy m (atTarget n)) (done (e .statement)) t (cond q (to.Refused 11 p) (to.Complete s))
-        hit true t g h = ap (λ (t : ℕ). settle (atEnd p w (busy m (atTarget n)) k es) (done (e .statement)) t) g
-        hit false t g h = subst (λ (t : ℕ). Follows (busy m (atTarget n)) (done (e .statement)) t (to.Complete s)) (sym g) (whole h)
-
         go : (x : ℕ) → latest w d ≡ x → FoundAs es w o x → Follows (busy m (atTarget n)) (done (e .statement)) (targetTest (definition w d)) (targetAt (before (atTarget n)) v x)
         go zero q g = ap (λ (K : Option Statement). settle (atEnd p w (busy m (atTarget n)) k es) (done (e .statement)) (targetTest K)) g
-        go (suc x) q g = hit (isSurface (o .kind)) (targetTest (definition w d)) (g .1) (g .2)
+        go (suc x) q g = subst (λ (t : ℕ). Follows (busy m (atTarget n)) (done (e .statement)) t (to.Complete s)) (sym (g .1)) (whole (g .2))
 
   -- what a step has to see of the tables
   abbrev pub Sees : Phase → Type 0

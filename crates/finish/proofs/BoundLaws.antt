@@ -11,7 +11,7 @@ use Rattle.table.specs.View.{View, viewOf}
 use Rattle.finish.specs.Walk.{atLink, atType, walkFrom, finishOf}
 use Rattle.finish.specs.declared.Finish.{Finish}
 use Rattle.finish.specs.declared.Finish.the-variants.{Reached, Refused}
-use Rattle.scene.specs.Types.{isMaterial, isType}
+use Rattle.scene.specs.Types.{isMaterial, isModifier}
 
 -- the count of links of either answer
 abbrev pub linksOf : Finish → ℕ
@@ -28,7 +28,7 @@ at-link b (suc m) n k f h g = go (ltb (suc m) n) refl
     go false e = omega arith
 
 at-type : (b t m k : ℕ) (f : Finish) → k ≤ b → linksOf f ≤ b → linksOf (atType t m k f) ≤ b
-at-type b t m k f h g = go (isType t) (isMaterial t)
+at-type b t m k f h g = go (isModifier t) (isMaterial t)
   where
     go : (c d : Bool) → linksOf (cond c (cond d (Reached m k) f) (Refused 18 0)) ≤ b
     go true true = h

@@ -5,7 +5,7 @@ use mathlib.Core.Path.{_≡_, refl, ap, sym, _∙_, subst}
 use Prim.Native.Nat.{ℕ, _/_, zero, suc, _-_, _*_, _≤_, _<_}
 use native.Mathlib.Nat.{min-le-left}
 use native.Mathlib.Omega.{arith}
-use borrow.Author.Tests.{le-leb, lt-ltb}
+use borrow.Author.Tests.{le-leb, lt-ltb, not-true}
 use lib.ListN.{replicate, length, length-append}
 use Rattle.laws.specs.Bytes.{Bytes, same}
 use Rattle.finish.specs.Meaning.{finishIn}
@@ -16,12 +16,13 @@ use Rattle.finish.specs.declared.Finish.{Finish}
 use Rattle.finish.specs.declared.Finish.the-variants.{Reached, Refused}
 use Rattle.scene.proofs.AcceptLaws.{accept-forth}
 use Rattle.scene.proofs.FlatLaws.{record-in, flat-length}
-use Rattle.scene.proofs.MeaningLaws.{IsType, Meant, AllMeant, meant-split, accepted-meant, NoSurface, alias-type}
+use Rattle.scene.proofs.GivesLaws.{gives-by-type}
+use Rattle.scene.proofs.MeaningLaws.{IsType, Meant, AllMeant, meant-split, accepted-meant, NoSurface, not-surface, alias-type}
 use Rattle.scene.proofs.PropertyLaws.{accepted-linked}
 use Rattle.scene.proofs.RoomLaws.{fit-forth}
-use Rattle.scene.proofs.SwapLaws.{Linked, linked-split}
+use Rattle.scene.proofs.SwapLaws.{Linked, hits-true, linked-split}
 use Rattle.scene.proofs.TellsLaws.{records-length, nth-at, split-statements, statements-length}
-use Rattle.scene.specs.Links.{hits, found, head, definition, latest, modifierLink, ownBody, typeIn}
+use Rattle.scene.specs.Links.{gives, hits, found, head, definition, latest, modifierLink, ownBody, typeIn}
 use Rattle.scene.specs.Reading.{Reading, Entry, statements, modifierTest, accepted, read}
 use Rattle.scene.specs.Record.{flat, settingsFor, Record, recordIn, recordOf, records, recordImage, nth, width}
 use Rattle.scene.specs.declared.Settings.{Settings}
@@ -68,6 +69,7 @@ record Leads (w : Bytes) (x : List Entry) : Type 0 where
   entry : Entry
   earlier : List Entry
   split : x ≡ later ++ entry ∷ earlier
+  given : gives (entry .statement) ≡ true
   there : found w (statements x) ≡ entry .statement ∷ statements earlier
 
 leads : (w : Bytes) (x : List Entry) → modifierTest (definition w (statements x)) ≡ 0 → Leads w x
@@ -76,8 +78,8 @@ leads w [] h = absurd (omega arith)
 leads w (e ∷ x) h = go (hits w (e .statement)) refl h (leads w x)
   where
     go : (c : Bool) → hits w (e .statement) ≡ c → modifierTest (head (cond c (e .statement ∷ statements x) (found w (statements x)))) ≡ 0 → (modifierTest (definition w (statements x)) ≡ 0 → Leads w x) → Leads w (e ∷ x)
-    go true q h ih = record { later = []; entry = e; earlier = x; split = refl; there = rw q }
-    go false q h ih = let a = ih h in record { later = e ∷ a .later; entry = a .entry; earlier = a .earlier; split = ap {B = List Entry} (λ (z : List Entry). e ∷ z) (a .split); there = rw q (a .there) }
+    go true q h ih = record { later = []; entry = e; earlier = x; split = refl; given = hits-true w (e .statement) q .0; there = rw q }
+    go false q h ih = let a = ih h in record { later = e ∷ a .later; entry = a .entry; earlier = a .earlier; split = ap {B = List Entry} (λ (z : List Entry). e ∷ z) (a .split); given = a .given; there = rw q (a .there) }
 
 -- ---- the walk over the table
 
@@ -93,10 +95,10 @@ walk-some : (table : List ℕ) (left k n : ℕ) → walkFrom (viewOf table) (suc
 unfolding walkFrom
 walk-some table left k n = refl
 
--- a link that leads down to a record with a type is followed
-link-followed : (table : List ℕ) (left k n m t : ℕ) (f : Finish) → IsType t → recordIn table (suc m) .type ≡ t → suc m < n → walkFrom (viewOf table) left (suc k) (suc m) ≡ f
+-- a link that leads down to a modifier is followed
+link-followed : (table : List ℕ) (left k n m t : ℕ) (f : Finish) → NoSurface t → recordIn table (suc m) .type ≡ t → suc m < n → walkFrom (viewOf table) left (suc k) (suc m) ≡ f
     → answerAt table left k n (suc m) ≡ cond (isMaterial t) (Reached (suc m) (suc k)) f
-link-followed table left k n m t f (a, b) q l w = rw (lt-ltb (suc m) n l, q, le-leb 1 t a, le-leb t 25 b, w)
+link-followed table left k n m t f (a, b) q l w = rw (lt-ltb (suc m) n l, q, le-leb 10 t a, le-leb t 25 b, w)
 
 module _ (es : List Entry) (table : List ℕ) (row : (n : ℕ) → recordIn table n ≡ nth (records es) n) (linked : Linked (statements es)) (typed : (later : List Statement) (s : Statement) (earlier : List Statement) → statements es ≡ later ++ s ∷ earlier → IsType (typeIn (ownBody (s .body) earlier))) where
   module _ (l : List Entry) (e : Entry) (x : List Entry) (q : es ≡ l ++ e ∷ x) where
@@ -111,8 +113,9 @@ module _ (es : List Entry) (table : List ℕ) (row : (n : ℕ) → recordIn tabl
     unfolding recordOf
     type-of = ap (λ (r : Record). r .type) row-of
 
-    type-range : IsType (typeIn (ownBody (e .statement .body) (statements x)))
-    type-range = typed (statements l) (e .statement) (statements x) (split-statements es l e x q)
+    -- what gives its name is a modifier
+    type-range : gives (e .statement) ≡ true → NoSurface (typeIn (ownBody (e .statement .body) (statements x)))
+    type-range g = not-surface _ (typed (statements l) (e .statement) (statements x) (split-statements es l e x q)) (not-true _ (sym (gives-by-type (e .statement) (statements x)) ∙ g))
 
     defined : same (e .statement .modifier) void ≡ false → modifierTest (definition (e .statement .modifier) (statements x)) ≡ 0
     defined v = sym (ap (λ (b : Bool). cond b 0 (modifierTest (definition (e .statement .modifier) (statements x)))) v)
@@ -153,7 +156,7 @@ module _ (es : List Entry) (table : List ℕ) (row : (n : ℕ) → recordIn tabl
       let b = before l e x q v in
       walk-some table left k (suc (length x)) ∙ ap (answerAt table left k (suc (length x))) (link l e x q v)
       ∙ link-followed table left k (suc (length x)) (length (a .earlier)) (typeIn (ownBody (a .entry .statement .body) (statements (a .earlier)))) (finishIn (a .entry .statement .modifier) (statements (a .earlier)) (suc k))
-      (type-range (l ++ e ∷ a .later) (a .entry) (a .earlier) o) (type-of (l ++ e ∷ a .later) (a .entry) (a .earlier) o) (omega arith) ih
+      (type-range (l ++ e ∷ a .later) (a .entry) (a .earlier) o (a .given)) (type-of (l ++ e ∷ a .later) (a .entry) (a .earlier) o) (omega arith) ih
       ∙ sym (finish-next l e x q v k)
 
   walk-from : (left k : ℕ) (l : List Entry) (e : Entry) (x : List Entry) → es ≡ l ++ e ∷ x → length x ≤ left → walkFrom (viewOf table) left k (suc (length x)) ≡ finishIn (e .statement .modifier) (statements x) k

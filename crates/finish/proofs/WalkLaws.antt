@@ -14,12 +14,12 @@ use Rattle.finish.specs.declared.Finish.the-variants.{Reached, Refused}
 use Rattle.finish.specs.declared.Link.{Link}
 use Rattle.finish.specs.declared.Link.the-variants.{Ended, On}
 use Rattle.scene.specs.Record.{fieldIn}
-use Rattle.scene.specs.Types.{isMaterial, isType}
+use Rattle.scene.specs.Types.{isMaterial, isModifier}
 use Rattle.table.proofs.QuestionLaws.{modifier-field, type-field}
 
 -- ---- what a type comes to
 
-module _ (t m k : ℕ) {b : Bool} (e : b ≡ isType t) where
+module _ (t m k : ℕ) {b : Bool} (e : b ≡ isModifier t) where
   pub no-type : b ≡ false → Ended (Refused 18 0) ≡ reachedOf t m k
   unfolding reachedOf
   no-type h = rw (← e, h)
@@ -92,7 +92,7 @@ module _ (table : List ℕ) (n k allowance : ℕ) where
 
   on-type : (t : ℕ) → link < n → k < allowance → walkFrom v (allowance - k) k n ≡ atType t link (k + 1) (walkFrom v (allowance - (k + 1)) (k + 1) link) → Follows v n k allowance (reachedOf t link (k + 1))
   unfolding reachedOf
-  on-type t h a e = go (isType t) (isMaterial t) e
+  on-type t h a e = go (isModifier t) (isMaterial t) e
     where
       go : (b c : Bool) → walkFrom v (allowance - k) k n ≡ cond b (cond c (Reached link (k + 1)) (walkFrom v (allowance - (k + 1)) (k + 1) link)) (Refused 18 0) → Follows v n k allowance (cond b (cond c (Ended (Reached link (k + 1))) (On link)) (Ended (Refused 18 0)))
       go true true e = e

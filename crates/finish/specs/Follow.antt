@@ -6,12 +6,12 @@ use Rattle.finish.specs.Walk.{walkFrom}
 use Rattle.finish.specs.declared.Finish.the-variants.{Reached, Refused}
 use Rattle.finish.specs.declared.Link.{Link}
 use Rattle.finish.specs.declared.Link.the-variants.{Ended, On}
-use Rattle.scene.specs.Types.{isMaterial, isType}
+use Rattle.scene.specs.Types.{isMaterial, isModifier}
 use Rattle.table.specs.View.{View}
 
 -- what primitive m of type t comes to, reached by k links
 unfoldable pub reachedOf : (t m k : ℕ) → Link
-reachedOf t m k = cond (isType t) (cond (isMaterial t) (Ended (Reached m k)) (On m)) (Ended (Refused 18 0))
+reachedOf t m k = cond (isModifier t) (cond (isMaterial t) (Ended (Reached m k)) (On m)) (Ended (Refused 18 0))
 
 -- the walk from primitive n, after k links, ends here, or goes on from an earlier primitive
 abbrev pub Follows : View → (n k allowance : ℕ) → Link → Type 0

@@ -11,7 +11,8 @@ use Rattle.finish.specs.declared.Finish.{Finish}
 use Rattle.finish.specs.declared.Finish.the-variants.{Reached}
 
 -- The first material reached from a modifier w, after k links, among the statements above it, latest first: a modifier `void`
--- ends the walk with 0; any other leads to the latest statement that gives the name, whose type is its target's if it is an alias
+-- ends the walk with 0; any other leads to the latest statement that gives the name, whose type is its target's if it is an alias; only
+-- a mixfunc is passed through
 unfoldable pub finishIn : Bytes → List Statement → ℕ → Finish
 finishIn w [] k = Reached 0 k
 finishIn w (s ∷ d) k =

@@ -3,7 +3,7 @@ use mathlib.Core.Bool.{cond}
 use mathlib.Core.List.{List}
 use Prim.Native.Nat.{ℕ, zero, suc}
 use lib.Dec.{eqb, ltb}
-use Rattle.scene.specs.Types.{isMaterial, isType}
+use Rattle.scene.specs.Types.{isMaterial, isModifier}
 use Rattle.finish.specs.declared.Finish.{Finish}
 use Rattle.finish.specs.declared.Finish.the-variants.{Reached, Refused}
 use Rattle.table.specs.Question.{numberRefusal}
@@ -24,9 +24,10 @@ abbrev pub atLink : (link n k : ℕ) → Finish → Finish
 atLink zero n k further = Reached 0 k
 atLink (suc m) n k further = cond (ltb (suc m) n) further (Refused 18 0)
 
--- "then the reached type (18)": primitive m of type t, reached by k links; "a reached surface or mixfunc is passed through"
+-- "then the reached type (18)": primitive m of type t, reached by k links. "a finish walk that reaches a surface is 18"; a mixfunc is
+-- passed through
 abbrev pub atType : (t m k : ℕ) → Finish → Finish
-atType t m k further = cond (isType t) (cond (isMaterial t) (Reached m k) further) (Refused 18 0)
+atType t m k further = cond (isModifier t) (cond (isMaterial t) (Reached m k) further) (Refused 18 0)
 
 -- the chain from primitive n on, after k links, with `left` more allowed; "19: another link is needed and the allowance is used
 -- up; the count is then the allowance"

@@ -70,7 +70,7 @@ pub fn name<'a>(text: &'a [u8], records: &[u32], count: usize, number: usize) ->
 fn reached(kind: u32, at: usize, links: usize) -> Link
     ensures { λ r. ⌜ r ≡ reachedOf kind at links ⌝ }
 {
-    if kinds::is_type(kind) {
+    if kinds::is_modifier(kind) {
         if kinds::is_material(kind) {
             return Link::Ended(Finish::Reached(at, links));
         }

@@ -3,7 +3,7 @@ ghost use mathlib.Core.Path.{_≡_};
 ghost use Prim.Native.Nat.{_*_, _<_};
 ghost use Rattle.laws.specs.Bytes.{part};
 ghost use Rattle.scene.specs.HouseRules.{breachAt, houseRules, isAbove0, isAtLeast0, is0};
-ghost use Rattle.scene.specs.Types.{allows, isMaterial, isSurface, isType, realsAllowed, stringsAllowed, typeName, typeNumber};
+ghost use Rattle.scene.specs.Types.{allows, isMaterial, isModifier, isSurface, realsAllowed, stringsAllowed, typeName, typeNumber};
 ghost use Rattle.kinds.specs.Names.{padded};
 ghost use Rattle.kinds.specs.Rules.{breached, broken, names, rowNumber, ruleOf};
 
@@ -205,18 +205,18 @@ const HOUSES: [u32; 24] = [
     TRANS2 * 100 + 6 * 10 + ABOVE_0,
 ];
 
-// Whether a number is a type's.
-pub fn is_type(t: u32) -> bool
-    ensures { λ r. ⌜ r ≡ isType t ⌝ }
-{
-    (1 <= t) & (t <= 25)
-}
-
 // Whether a type is a surface.
 pub fn is_surface(t: u32) -> bool
     ensures { λ r. ⌜ r ≡ isSurface t ⌝ }
 {
     (1 <= t) & (t <= 9)
+}
+
+// Whether a type is a modifier: a material, or a mixture of them.
+pub fn is_modifier(t: u32) -> bool
+    ensures { λ r. ⌜ r ≡ isModifier t ⌝ }
+{
+    (10 <= t) & (t <= 25)
 }
 
 // Whether a type is a material.

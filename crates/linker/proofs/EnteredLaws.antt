@@ -1,5 +1,5 @@
 -- Entering a statement's record makes the table that of one statement more.
-use mathlib.Core.Bool.{false, cond}
+use mathlib.Core.Bool.{Bool, true, false, not, cond}
 use mathlib.Core.List.{List, [], _∷_, _++_}
 use mathlib.Core.Path.{_≡_, refl, ap, sym, _∙_}
 use Prim.Native.Nat.{ℕ, zero, suc, _+_, _-_, _*_, _/_, _≤_, min}
@@ -9,20 +9,22 @@ use borrow.Author.Tests.{lt-leb}
 use lib.Dec.{leb}
 use lib.ListN.{length, length-append, length-set, length-replicate, replicate, take, drop}
 use lib.Seq.{sets, sets-eq, set-append-left, take-append-seam, drop-append-add}
+use Rattle.laws.proofs.BoolLaws.{cond-elim}
 use Rattle.laws.specs.Bytes.{Bytes, part}
 use Rattle.lookup.proofs.LookupLaws.{search-latest}
-use Rattle.linker.specs.Entered.{enteredIn, toldIn, recordFrom}
+use Rattle.linker.specs.Entered.{earlierIn, enteredIn, toldIn, recordFrom}
 use Rattle.lookup.specs.Lookup.{latestIn}
 use Rattle.statement.specs.declared.Draft.{Draft}
 use Rattle.scene.proofs.FlatLaws.{flat-next, link, flat-snoc, flat-length}
-use Rattle.scene.proofs.GivesLaws.{gives-name}
-use Rattle.scene.proofs.GrowLaws.{records-grow}
+use Rattle.scene.proofs.GivesLaws.{gives-by-type}
+use Rattle.scene.proofs.GrowLaws.{records-grow, toldOf}
 use Rattle.scene.proofs.PlaceLaws.{AllRead}
 use Rattle.scene.proofs.SwapLaws.{latest-le}
 use Rattle.scene.proofs.TellsLaws.{name-at, records-length, statements-length}
-use Rattle.scene.specs.Links.{latest}
+use Rattle.scene.specs.Links.{gives, latest, ownBody, typeIn}
 use Rattle.scene.specs.Reading.{newline, Entry, statements}
 use Rattle.scene.specs.Record.{width, flat, recordOf, Record, filled, fields, records, nextField}
+use Rattle.scene.specs.Types.{isSurface}
 
 drop-zeros : (k n : ℕ) → drop {A = ℕ} k (replicate n 0) ≡ replicate (n - k) 0
 drop-zeros zero n = rw sub-zero
@@ -62,22 +64,37 @@ module _ (text : Bytes) (table : List ℕ) (e : Entry) (es : List Entry) (d : Dr
   finds : (n : ℕ) → n ≡ length (statements es) → latestIn text table (part text (d .name) (d .size)) n ≡ latest (e .statement .name) (statements es)
   finds n q = (λ i. latestIn text (w i) (named i) ((q ∙ statements-length es) i)) ∙ search-latest text es (length table) (h .1) (e .statement .name)
 
+  -- the record told of the draft is the one that gets the statement as its next
+  tells-of : (n : ℕ) → n ≡ length (statements es) → n ≤ length table / width → earlierIn text table n d ≡ toldOf e es
+  unfolding earlierIn recordOf
+  tells-of n q few =
+      let in-table : min n (length table / width) ≡ n = omega arith in
+      (λ i. cond (isSurface (own i .type)) 0 ((ap (latestIn text table (part text (d .name) (d .size))) in-table ∙ finds n q) i))
+      ∙ go (isSurface (typeIn (ownBody (e .statement .body) (statements es))))
+      ∙ ap (λ (b : Bool). cond b (latest (e .statement .name) (statements es)) 0) (sym (gives-by-type (e .statement) (statements es)))
+    where
+      go : (b : Bool) → cond b 0 (latest (e .statement .name) (statements es)) ≡ cond (not b) (latest (e .statement .name) (statements es)) 0
+      go true = refl
+      go false = refl
+
+  told-most : toldOf e es ≤ length (statements es)
+  told-most = cond-elim (λ m. m ≤ length (statements es)) (gives (e .statement)) (latest-le (e .statement .name) (statements es)) (omega arith)
+
   pub enters : (n : ℕ) → n ≡ length (statements es) → n ≤ 1024 → n * width + width ≤ length table → enteredIn text table n d ≡ filled 0 (length table) (flat text (records (e ∷ es)))
   unfolding enteredIn
   enters n q few f =
       let rows = length table / width in
-      let in-table : min n rows ≡ n = omega arith in
       let small : min (n + 1) 4294967295 ≡ n + 1 = omega arith in
       let room : leb rows n ≡ false = lt-leb rows n (omega arith) in
       let R : List Record = records es in
-      let m : ℕ = latest (e .statement .name) (statements es) in
+      let m : ℕ = toldOf e es in
       let k : length R ≡ length es = records-count es in
-      let le : m ≤ length R = omega (arith, k, latest-le (e .statement .name) (statements es), statements-length es) in
+      let le : m ≤ length R = omega (arith, k, told-most, statements-length es) in
       let L : List Record = link R m (suc (length es)) in
       let c : n + 1 ≡ suc (length es) = omega (arith, statements-length es) in
       let j : length (flat text L) ≡ length (flat text R) = omega (arith, flat-length text L, flat-length text R, link-length R m (suc (length es))) in
-      (λ i. cond (room i) table (sets (toldIn table (latestIn text table (part text (d .name) (d .size)) (in-table i)) (small i)) (n * width) (fields text (recordFrom d)))) ∙
-      (λ i. sets (toldIn (w i) (finds n q i) (c i)) (n * width) (fields text (own i))) ∙
+      (λ i. cond (room i) table (sets (toldIn table (earlierIn text table n d) (small i)) (n * width) (fields text (recordFrom d)))) ∙
+      (λ i. sets (toldIn (w i) (tells-of n q (omega arith) i) (c i)) (n * width) (fields text (own i))) ∙
       ap (λ (t : List ℕ). sets t (n * width) (fields text (recordOf [] e es))) (told-link text R (replicate (length table - length (flat text R)) 0) m (suc (length es)) le ∙ ap {B = List ℕ} (λ (x : ℕ). flat text L ++ replicate (length table - x) 0) (sym j)) ∙
       put-record text L (recordOf [] e es) n (length table) (omega (arith, link-length R m (suc (length es)), k, statements-length es)) f ∙
-      ap (λ (t : List Record). filled 0 (length table) (flat text t)) (sym (records-grow e (gives-name (e .statement)) es))
+      ap (λ (t : List Record). filled 0 (length table) (flat text t)) (sym (records-grow e es))

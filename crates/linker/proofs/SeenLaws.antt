@@ -13,14 +13,12 @@ use Rattle.laws.specs.Bytes.{Bytes}
 use Rattle.linker.specs.Seen.{back, draftOf, draftIn}
 use Rattle.statement.specs.declared.Draft.{Draft}
 use Rattle.scene.proofs.FlatLaws.{record-in}
-use Rattle.scene.proofs.SwapLaws.{bodyLink, Linked}
 use Rattle.scene.proofs.TellsLaws.{records-at, tail-length, own, statements-length, source-tail, string-below}
 use Rattle.scene.specs.HouseRules.{zeroReal, realAt, breachAt, breach, houseRules}
-use Rattle.scene.specs.Links.{stringsIn, bodyOf, through, ownBody, head, realsIn, source, found, definition, typeIn, latest, hits, resolve}
-use Rattle.scene.specs.Reading.{targetTest, Entry, statements, surfaceTest, modifierTest}
+use Rattle.scene.specs.Links.{stringsIn, bodyOf, ownBody, head, realsIn, source, found, definition, typeIn, latest, hits, resolve}
+use Rattle.scene.specs.Reading.{targetTest, Entry, statements, modifierTest}
 use Rattle.scene.specs.Record.{filled, recordOf, records, flat, firstReal, recordsFrom, stringPlace, nothing, nth, recordIn}
-use Rattle.scene.specs.Types.{isSurface}
-use Rattle.scene.specs.Statement.{primitive, Body, alias, Statement}
+use Rattle.scene.specs.Statement.{Statement}
 
 -- type, strings and reals as a name leads to them
 abbrev pub sourceDraft : List Entry → List Statement → Draft
@@ -29,25 +27,17 @@ sourceDraft es S = record { kind = typeIn (bodyOf S); modifier = 0; target = 0; 
 -- what is known of the number x that a name w leads to, and of its record's draft
 abbrev pub FoundAs : List Entry → Bytes → Draft → ℕ → Type 0
 FoundAs es w o zero = definition w (statements es) ≡ none
-FoundAs es w o (suc j) = (modifierTest (definition w (statements es)) ≡ 0) × (targetTest (definition w (statements es)) ≡ cond (isSurface (o .kind)) 11 0) × (o ≡ sourceDraft es (resolve w (statements es)))
+FoundAs es w o (suc j) = (modifierTest (definition w (statements es)) ≡ 0) × (targetTest (definition w (statements es)) ≡ 0) × (o ≡ sourceDraft es (resolve w (statements es)))
 
 -- ---- the record looked up
 
 -- the same over the records of es, for a lookup in a tail of them
 abbrev Known : List Entry → Option Statement → List Statement → ℕ → Type 0
 Known es K S zero = K ≡ none
-Known es K S (suc j) = (modifierTest K ≡ 0) × (targetTest K ≡ cond (isSurface (typeIn (bodyOf S))) 11 0) × (draftOf (getD (records es) j nothing) ≡ sourceDraft es S)
+Known es K S (suc j) = (modifierTest K ≡ 0) × (targetTest K ≡ 0) × (draftOf (getD (records es) j nothing) ≡ sourceDraft es S)
 
 abbrev KnownIn : List Entry → List Statement → Bytes → Type 0
 KnownIn es D w = Known es (definition w D) (resolve w D) (latest w D)
-
-not-surface : (q : Bool) → _≡_ {A = ℕ} (cond q 11 0) 0 → q ≡ false
-not-surface true e = absurd (omega arith)
-not-surface false e = refl
-
-target-known : (es : List Entry) (K : Option Statement) (S : List Statement) (j : ℕ) → Known es K S j → targetTest K ≡ 0 → isSurface (typeIn (bodyOf S)) ≡ false
-target-known es K S zero f h = let z : _≡_ {A = ℕ} 10 0 = sym (ap targetTest f) ∙ h in absurd (omega arith)
-target-known es K S (suc j) f h = not-surface (isSurface (typeIn (bodyOf S))) (sym (f .1) ∙ h)
 
 string-within : (l x : List Entry) (n : ℕ) → n ≤ length x → stringPlace (l ++ x) n ≡ stringPlace x n
 string-within [] x n h = refl
@@ -67,32 +57,27 @@ record-at es l e d q = (λ i. draftOf (getD (recordsFrom [] (q i)) (statements-l
     place : stringPlace (e ∷ d) (length S) ≡ stringPlace es (length S)
     place = sym (string-within l (e ∷ d) (length S) (omega (arith, tail-length S (e .statement ∷ statements d) (source-tail (e .statement) (statements d)), statements-length d))) ∙ ap (λ (x : List Entry). stringPlace x (length S)) (sym q)
 
-surface-of : (es : List Entry) (s : Statement) (D : List Statement) (b : Body) → bodyLink D b → ((x : Bytes) → KnownIn es D x) → s .body ≡ b
-    → surfaceTest b ≡ cond (isSurface (typeIn (bodyOf (through b (s ∷ D) (λ x. resolve x D))))) 11 0
-surface-of es s D (primitive t ss rs) h ih q = ap (λ (z : Body). cond (isSurface (typeIn z)) 11 0) (sym q)
-surface-of es s D (alias x) h ih q = sym (ap (λ (z : Bool). cond z 11 0) (target-known es (definition x D) (resolve x D) (latest x D) (ih x) h))
-
-known : (es : List Entry) (w : Bytes) (l d : List Entry) → es ≡ l ++ d → Linked (statements d) → KnownIn es (statements d) w
+known : (es : List Entry) (w : Bytes) (l d : List Entry) → es ≡ l ++ d → KnownIn es (statements d) w
 unfolding found resolve statements
-known es w l [] q h = refl
-known es w l (e ∷ d) q h = go (hits w (e .statement)) (λ x. known es x (l ++ e ∷ []) d (q ∙ sym (append-assoc l (e ∷ []) d)) (h .1))
+known es w l [] q = refl
+known es w l (e ∷ d) q = go (hits w (e .statement)) (known es w (l ++ e ∷ []) d (q ∙ sym (append-assoc l (e ∷ []) d)))
   where
-    go : (b : Bool) → ((x : Bytes) → KnownIn es (statements d) x)
+    go : (b : Bool) → KnownIn es (statements d) w
         → Known es (head (cond b (e .statement ∷ statements d) (found w (statements d)))) (cond b (source (e .statement) (statements d)) (resolve w (statements d))) (length (cond b (e .statement ∷ statements d) (found w (statements d))))
-    go true ih = (refl, surface-of es (e .statement) (statements d) (e .statement .body) (h .0 .body) ih refl, record-at es l e d q)
-    go false ih = ih w
+    go true ih = (refl, refl, record-at es l e d q)
+    go false ih = ih
 
 module _ (text : Bytes) (table : List ℕ) (es : List Entry) (t : table ≡ filled 0 (length table) (flat text (records es))) where
   draft-is : (k : ℕ) → draftIn table (suc k) ≡ draftOf (getD (records es) k nothing)
   unfolding nth
   draft-is k = ap (λ (z : List ℕ). draftOf (recordIn z (suc k))) t ∙ ap draftOf (record-in text (records es) (length table) (suc k))
 
-  pub found-as : Linked (statements es) → (w : Bytes) (x : ℕ) → x ≡ latest w (statements es) → FoundAs es w (draftIn table x) x
-  found-as h w x e = go x (subst (Known es (definition w (statements es)) (resolve w (statements es))) (sym e) (known es w [] es refl h))
+  pub found-as : (w : Bytes) (x : ℕ) → x ≡ latest w (statements es) → FoundAs es w (draftIn table x) x
+  found-as w x e = go x (subst (Known es (definition w (statements es)) (resolve w (statements es))) (sym e) (known es w [] es refl))
     where
       go : (x : ℕ) → Known es (definition w (statements es)) (resolve w (statements es)) x → FoundAs es w (draftIn table x) x
       go zero f = f
-      go (suc j) f = let q : draftIn table (suc j) ≡ sourceDraft es (resolve w (statements es)) = draft-is j ∙ f .2 in (f .0, f .1 ∙ ap (λ (z : Draft). cond (isSurface (z .kind)) 11 0) (sym q), q)
+      go (suc j) f = (f .0, f .1, draft-is j ∙ f .2)
 
 -- ---- the reals before
 

@@ -11,12 +11,13 @@ use lib.ListN.{length, getD, set, take, drop}
 use lib.Seq.{paste, paste-suc, sets, sets-eq, take-length}
 use Rattle.laws.proofs.BoolLaws.{cond-elim}
 use Rattle.laws.specs.Bytes.{Bytes, part}
-use Rattle.linker.specs.Entered.{enteredIn, recordFrom, rowOf, toldIn}
+use Rattle.linker.specs.Entered.{earlierIn, enteredIn, recordFrom, rowOf, toldIn}
 use Rattle.lookup.specs.Lookup.{hasName, latestIn}
 use Rattle.linker.specs.Seen.{back, clipped, draftIn, isLookedUp, lookedFor}
 use Rattle.statement.specs.declared.Phase.{Phase}
 use Rattle.scene.specs.HouseRules.{zeroReal}
 use Rattle.scene.specs.Record.{fieldIn, fields, recordIn, width, nextField}
+use Rattle.scene.specs.Types.{isSurface}
 use Rattle.statement.specs.declared.Draft.{Draft}
 
 -- ---- the next of a name
@@ -87,7 +88,19 @@ module _ (text : Bytes) (T : List ℕ) (n : ℕ) (d : Draft) where
   unfolding enteredIn
   entered-none h = rw (le-leb rows n h)
 
-  pub entered-one : n < rows → {w : Bytes} {earlier number : ℕ} {T₁ T₂ : List ℕ} → w ≡ part text (d .name) (d .size) → earlier ≡ latestIn text T w (min n rows) → number ≡ clipped (n + 1)
-      → T₁ ≡ toldIn T earlier number → T₂ ≡ sets T₁ (n * width) (rowOf d) → T₂ ≡ enteredIn text T n d
+  -- the record told of a draft, as the code finds it
+  pub earlier-surface : {q : Bool} → q ≡ isSurface (d .kind) → q ≡ true → 0 ≡ earlierIn text T n d
+  unfolding earlierIn
+  earlier-surface e h = rw (← e, h)
+
+  pub earlier-found : {q : Bool} {w : Bytes} {r : ℕ} → q ≡ isSurface (d .kind) → q ≡ false → w ≡ part text (d .name) (d .size) → r ≡ latestIn text T w (min n rows) → r ≡ earlierIn text T n d
+  unfolding earlierIn
+  earlier-found e h p f = f ∙ rw (← e, h) (ap (λ (v : Bytes). latestIn text T v (min n rows)) p)
+
+  pub earlier-most : earlierIn text T n d ≤ min n rows
+  unfolding earlierIn
+  earlier-most = cond-elim (λ m. m ≤ min n rows) (isSurface (d .kind)) (omega arith) (latest-in-le text T (part text (d .name) (d .size)) (min n rows))
+
+  pub entered-one : n < rows → {told number : ℕ} {T₁ T₂ : List ℕ} → told ≡ earlierIn text T n d → number ≡ clipped (n + 1) → T₁ ≡ toldIn T told number → T₂ ≡ sets T₁ (n * width) (rowOf d) → T₂ ≡ enteredIn text T n d
   unfolding enteredIn
-  entered-one h p e m t s = rw (lt-leb rows n h) (s ∙ (λ i. sets ((t ∙ (λ j. toldIn T ((e ∙ ap (λ (v : Bytes). latestIn text T v (min n rows)) p) j) (m j))) i) (n * width) (sym (row-fields text d) i)))
+  entered-one h e m t s = rw (lt-leb rows n h) (s ∙ (λ i. sets ((t ∙ (λ j. toldIn T (e j) (m j))) i) (n * width) (sym (row-fields text d) i)))

@@ -10,6 +10,7 @@ use Rattle.lookup.specs.Lookup.{latestIn}
 use Rattle.linker.specs.Seen.{clipped}
 use Rattle.statement.specs.declared.Draft.{Draft}
 use Rattle.scene.specs.Record.{fields, width, Record, nextField}
+use Rattle.scene.specs.Types.{isSurface}
 
 -- a draft as a record, with no next of its name yet
 abbrev pub recordFrom : Draft → Record
@@ -25,10 +26,11 @@ abbrev pub toldIn : List ℕ → ℕ → ℕ → List ℕ
 toldIn table zero number = table
 toldIn table (suc k) number = set table (k * width + nextField) number
 
--- the latest of the first n records that has the draft's name is told of record n + 1, which the draft becomes; nothing is
--- entered where there is no room
+-- the number of the record that gets the draft as its next: the latest of the first n of its name; "0 for surfaces"
+unfoldable pub earlierIn : Bytes → List ℕ → ℕ → Draft → ℕ
+earlierIn text table n d = cond (isSurface (d .kind)) 0 (latestIn text table (part text (d .name) (d .size)) (min n (length table / width)))
+
+-- that record is told of record n + 1, which the draft becomes; nothing is entered where there is no room
 unfoldable pub enteredIn : Bytes → List ℕ → ℕ → Draft → List ℕ
 enteredIn text table n d =
-    let rows = length table / width in
-    let earlier = latestIn text table (part text (d .name) (d .size)) (min n rows) in
-    cond (leb rows n) table (sets (toldIn table earlier (clipped (n + 1))) (n * width) (fields text (recordFrom d)))
+    cond (leb (length table / width) n) table (sets (toldIn table (earlierIn text table n d) (clipped (n + 1))) (n * width) (fields text (recordFrom d)))

@@ -3,7 +3,7 @@ ghost use mathlib.Core.Path.{_≡_};
 ghost use Prim.Native.Nat.{_+_, _*_, _/_, _≤_, min};
 ghost use lib.ListN.{getD, length};
 ghost use lib.Seq.{sets};
-ghost use Rattle.linker.specs.Entered.{enteredIn, rowOf, toldIn};
+ghost use Rattle.linker.specs.Entered.{earlierIn, enteredIn, rowOf, toldIn};
 ghost use Rattle.lookup.specs.Lookup.{latestIn};
 ghost use Rattle.linker.specs.Seen.{back, clipped, draftIn, isLookedUp, lookedFor, seenIn};
 ghost use Rattle.scene.specs.HouseRules.{zeroReal};
@@ -143,6 +143,17 @@ fn tell_next(records: &mut [u32], number: usize, next: u32)
     }
 }
 
+// The number of the record that gets the draft as its next: the latest before it of its name. A surface is nobody's next.
+fn earlier(text: &[u8], records: &[u32], count: usize, d: Draft) -> usize
+    ensures { λ r. ⌜ r ≡ earlierIn (now (text .entry)) (now (records .entry)) count d ⌝ }
+{
+    if kinds::is_surface(d.kind) {
+        return 0;
+    }
+    let name = lexer::part(text, wide(d.name), wide(d.size));
+    lookup::find(text, records, count, name)
+}
+
 // The finished statement becomes record `count`, counted from 0, where the table has room for it.
 pub fn enter(text: &[u8], records: &mut [u32], count: usize, d: Draft)
     ensures { λ _. ⌜ now (records .exit) ≡ enteredIn (now (text .entry)) (now (records .entry)) count d ⌝ }
@@ -150,9 +161,8 @@ pub fn enter(text: &[u8], records: &mut [u32], count: usize, d: Draft)
     if records.len() / WIDTH <= count {
         return;
     }
-    let name = lexer::part(text, wide(d.name), wide(d.size));
-    let earlier = lookup::find(text, records, count, name);
+    let told = earlier(text, records, count, d);
     let number = narrow(count + 1);
-    tell_next(records, earlier, number);
+    tell_next(records, told, number);
     put_row(records, count, d);
 }

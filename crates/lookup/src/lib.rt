@@ -1,10 +1,11 @@
-// The look-up of a name in a table of records that may hold anything: a search from the latest record back.
+// The look-up of a name in a table of records that may hold anything: a search from the latest record back, past surfaces.
 ghost use mathlib.Core.List.{[]};
 ghost use mathlib.Core.Path.{_≡_};
 ghost use Prim.Native.Nat.{_/_, min};
 ghost use lib.ListN.{length};
 ghost use Rattle.lookup.specs.Lookup.{latestIn};
 ghost use Rattle.scene.specs.Record.{width};
+use table::KIND;
 use table::NAME;
 use table::NAME_LENGTH;
 use table::WIDTH;
@@ -15,7 +16,7 @@ fn wide(n: u32) -> usize
     n as usize
 }
 
-// The number of the latest of the first `count` records whose name has no bytes; 0 for none.
+// The number of the latest of the first `count` records, no surface, whose name has no bytes; 0 for none.
 fn find_empty(text: &[u8], records: &[u32], count: usize) -> usize
     ensures { λ r. ⌜ r ≡ latestIn (now (text .entry)) (now (records .entry)) [] count ⌝ }
 {
@@ -23,7 +24,8 @@ fn find_empty(text: &[u8], records: &[u32], count: usize) -> usize
     while 0 < n {
         let size = table::field(records, n, NAME_LENGTH);
         let name = wide(table::field(records, n, NAME));
-        if (size == 0) & (name <= text.len()) {
+        let surface = kinds::is_surface(table::field(records, n, KIND));
+        if (size == 0) & (name <= text.len()) & !surface {
             return n;
         }
         n -= 1;
@@ -31,8 +33,8 @@ fn find_empty(text: &[u8], records: &[u32], count: usize) -> usize
     0
 }
 
-// The number of the latest of the first `count` records that has the name `word`; 0 for none. Bytes are compared from the last
-// one on, where names of a kind differ first.
+// The number of the latest of the first `count` records, no surface, that has the name `word`; 0 for none. Bytes are compared from
+// the last one on, where names of a kind differ first.
 pub fn find(text: &[u8], records: &[u32], count: usize, word: &[u8]) -> usize
     ensures { λ r. ⌜ r ≡ latestIn (now (text .entry)) (now (records .entry)) (now (word .entry)) (min count (length (now (records .entry)) / width)) ⌝ }
 {
@@ -69,6 +71,9 @@ pub fn find(text: &[u8], records: &[u32], count: usize, word: &[u8]) -> usize
             if text[name + i] != word[i] {
                 continue 'search;
             }
+        }
+        if kinds::is_surface(records[n * WIDTH + KIND]) {
+            continue 'search;
         }
         break 'search n + 1;
     };

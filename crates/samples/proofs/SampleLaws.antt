@@ -1,11 +1,17 @@
--- The definitions compute: an exchange, and the case of truck nine.
+-- The definitions compute: an exchange, the case of truck nine, a sphere named like a paint, and two surfaces of one name.
 use mathlib.Core.Bool.{true}
 use mathlib.Core.List.{List, [], _∷_, _++_}
 use mathlib.Core.Logic.{inl, inr}
 use mathlib.Core.Path.{_≡_, refl}
 use Prim.Native.Nat.{ℕ}
 use lib.Dec.{lit≤}
-use lib.Ieee.{round, lt, le, eq}
+use lib.Ieee.{round, lt, le, eq, toBits}
+use Rattle.bits.specs.Bits.{sameReals}
+use Rattle.comparison.specs.Compare.{changed, compared, linesFor}
+use Rattle.content.specs.Content.{sameContent, sameWords}
+use Rattle.keys.specs.Key as key
+use Rattle.keys.specs.Key.{nthOf}
+use Rattle.keys.specs.Rows.{rowsOf, rowsTo}
 use Rattle.laws.specs.Bytes.{Bytes, bytes, same}
 use Rattle.laws.specs.Runs.{all, past}
 use Rattle.lexer.specs.Class.{isBlank, isGood, isOther}
@@ -21,7 +27,7 @@ use Rattle.scene.specs.HouseRules.{breach, breachAt, realAt, isAbove0, isAtLeas
 use Rattle.scene.specs.Links.{gives, hits, found, resolve, firstLater, realsUsed}
 use Rattle.scene.specs.Reading.{Entry, read, run, statements}
 use Rattle.scene.specs.Record.{entries, records, recordsFrom, recordOf, stringPlace, nth, realTable, reals, fullRoom}
-use Rattle.samples.specs.Samples.{lamp, wall, panel, oak, grey, desk}
+use Rattle.samples.specs.Samples.{lamp, wall, panel, oak, grey, desk, ball, small, large}
 use Rattle.scene.specs.Told.{tells, wordsFrom, renumbered}
 use Rattle.scene.specs.Types.{typeNumber, numberFrom, kindOf, stringsAllowed, realsAllowed}
 use Rattle.laws.specs.Runs as runs
@@ -77,3 +83,32 @@ oak-first = refl
 grey-first : desk-facts (grey ++ oak ++ desk) ≡ 2 ∷ 16 ∷ 15 ∷ []
 unfolding desk-facts tables
 grey-first = refl
+
+-- ---- a sphere named like the paint: the panel's modifier is the paint, and neither has a next of its name
+
+ball-facts : Bytes → List ℕ
+ball-facts text =
+    let rs = records (entries (read fullRoom text)) in
+    nth rs 3 .modifier ∷ nth rs 1 .next ∷ nth rs 2 .next ∷ []
+
+ball-passed : ball-facts (wall ++ ball ++ panel) ≡ 1 ∷ 0 ∷ 0 ∷ []
+unfolding ball-facts tables
+ball-passed = refl
+
+-- ---- two surfaces of one name give none and may be exchanged, but the comparison counts them: both have changed
+
+knobs : List Entry
+knobs = entries (read fullRoom (small ++ large))
+
+small-first : Exchange fullRoom [] small large [] knobs
+unfolding knobs readings inBlock given referred stands share
+small-first = record {
+  reads = refl;
+  first = record { starts = inl refl; ends = (bytes "void sphere knob 0 0 4 0 0 0 1", refl); first = (inl (lit≤ tt), (inl (lit≤ tt), tt)); last = (inl (lit≤ tt), (inr (lit≤ tt), tt)) };
+  second = record { starts = inr (bytes "void sphere knob 0 0 4 0 0 0 1", refl); ends = (bytes "void sphere knob 0 0 4 0 0 0 2", refl); first = (inl (lit≤ tt), (inr (lit≤ tt), tt)); last = (inr (lit≤ tt), (inr (lit≤ tt), tt)) };
+  independent = record { first = refl; second = refl };
+}
+
+knobs-changed : compared (rowsOf (small ++ large) knobs) (rowsOf (large ++ small) (entries (read fullRoom (large ++ small)))) ≡ record { key = nthOf (bytes "knob") 1; state = changed } ∷ record { key = nthOf (bytes "knob") 2; state = changed } ∷ []
+unfolding knobs tables compared linesFor rowsTo sameContent sameWords sameReals toBits key.times key.found key.lower key.before key.insert key.insertAll
+knobs-changed = refl

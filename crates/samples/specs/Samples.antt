@@ -1,4 +1,5 @@
--- Two exchanges at work, one that changes nothing and one that the condition keeps out.
+-- Exchanges at work, one that changes nothing, one that the condition keeps out and one that the comparison sees; and a sphere that is
+-- named like a paint.
 use Rattle.laws.specs.Bytes.{Bytes, bytes}
 
 -- ---- an exchange that changes nothing but numbering
@@ -22,3 +23,16 @@ grey = bytes "void metal deskfront\n0 0 5 .5 .5 .5 0 0\n"
 
 abbrev pub desk : Bytes
 desk = bytes "deskfront polygon desk\n0 0 9 0 0 0 1 0 0 0 1 0\n"
+
+-- ---- a sphere named `wall`, between the paint and the panel
+
+abbrev pub ball : Bytes
+ball = bytes "void sphere wall 0 0 4 0 0 0 1\n"
+
+-- ---- two surfaces of one name
+
+abbrev pub small : Bytes
+small = bytes "void sphere knob 0 0 4 0 0 0 1\n"
+
+abbrev pub large : Bytes
+large = bytes "void sphere knob 0 0 4 0 0 0 2\n"

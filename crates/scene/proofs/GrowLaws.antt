@@ -10,6 +10,7 @@ use lib.Seq.{set-at, set-append-left, getD-at}
 use Rattle.laws.proofs.BoolLaws.{or-false-left, or-false-right}
 use Rattle.laws.specs.Bytes.{Bytes}
 use Rattle.scene.proofs.FlatLaws.{withNext, link}
+use Rattle.scene.proofs.GivesLaws.{silent-misses}
 use Rattle.scene.proofs.RowLaws.{orElse-zero}
 use Rattle.scene.proofs.SwapLaws.{hits-of, hits-true, latest-le}
 use Rattle.scene.proofs.TellsLaws.{records-length, statements-length}
@@ -49,6 +50,26 @@ hit-snoc w (e ∷ l) x = go (hits w (e .statement)) (hit-snoc w l x)
     go : (a : Bool) → hit w (l ++ x ∷ []) ≡ (hit w l || hits w (x .statement)) → (a || hit w (l ++ x ∷ [])) ≡ ((a || hit w l) || hits w (x .statement))
     go true q = refl
     go false q = q
+
+-- ---- a statement that gives no name changes no record above it
+
+module _ (e : Entry) (gn : gives (e .statement) ≡ false) where
+  next-silent : (l : List Entry) (x : Entry) (d : List Entry) → nextOf (statements (e ∷ l)) (x .statement) (statements d) ≡ nextOf (statements l) (x .statement) (statements d)
+  unfolding firstLater statements
+  next-silent l x d =
+      let later = firstLater (x .statement .name) (statements l) (suc (length (statements d))) in
+      ap (λ (n : ℕ). cond (gives (x .statement)) n 0) (ap (λ (b : Bool). orElse later (cond b (suc (suc (length (statements d)) + length (statements l))) 0)) (silent-misses (x .statement .name) (e .statement) gn) ∙ orElse-zero later)
+
+  grow-silent : (l d : List Entry) → recordsFrom (e ∷ l) d ≡ recordsFrom l d
+  unfolding recordsFrom recordOf
+  grow-silent l [] = refl
+  grow-silent l (x ∷ d) = λ i. grow-silent (l ++ x ∷ []) d i ++ withNext (recordOf [] x d) (next-silent l x d i) ∷ []
+
+  records-silent : (es : List Entry) → records (e ∷ es) ≡ records es ++ recordOf [] e es ∷ []
+  unfolding records recordsFrom
+  records-silent es = ap {B = List Record} (λ (z : List Record). z ++ recordOf [] e es ∷ []) (grow-silent [] es)
+
+-- ---- one that gives its name is the next of the latest that does
 
 module _ (e : Entry) (gv : gives (e .statement) ≡ true) where
   abbrev w : Bytes
@@ -115,7 +136,18 @@ module _ (e : Entry) (gv : gives (e .statement) ≡ true) where
           (λ i. (ih (hit-snoc w l x ∙ (λ j. h j || q j)) ∙ ap (λ k. link R (latest w (statements d)) (suc k)) n) i ++ withNext (recordOf [] x d) (next-far l x d q i) ∷ []) ∙
           sym (link-append R (recordOf l x d ∷ []) (latest w (statements d)) (suc (length l + suc (length d))) (omega (arith, len, latest-le w (statements d))))
 
-  -- what the table becomes when the statement e is finished
-  pub records-grow : (es : List Entry) → records (e ∷ es) ≡ link (records es) (latest w (statements es)) (suc (length es)) ++ recordOf [] e es ∷ []
+  records-told : (es : List Entry) → records (e ∷ es) ≡ link (records es) (latest w (statements es)) (suc (length es)) ++ recordOf [] e es ∷ []
   unfolding records recordsFrom hit
-  records-grow es = ap {B = List Record} (λ (z : List Record). z ++ recordOf [] e es ∷ []) (grow-open [] es refl ∙ ap (λ k. link (recordsFrom [] es) (latest w (statements es)) (suc k)) (zero-add (length es)))
+  records-told es = ap {B = List Record} (λ (z : List Record). z ++ recordOf [] e es ∷ []) (grow-open [] es refl ∙ ap (λ k. link (recordsFrom [] es) (latest w (statements es)) (suc k)) (zero-add (length es)))
+
+-- the number of the record that gets the statement e as its next
+abbrev pub toldOf : Entry → List Entry → ℕ
+toldOf e es = cond (gives (e .statement)) (latest (e .statement .name) (statements es)) 0
+
+-- what the table becomes when the statement e is finished
+pub records-grow : (e : Entry) (es : List Entry) → records (e ∷ es) ≡ link (records es) (toldOf e es) (suc (length es)) ++ recordOf [] e es ∷ []
+records-grow e es = go (gives (e .statement)) refl
+  where
+    go : (b : Bool) → gives (e .statement) ≡ b → records (e ∷ es) ≡ link (records es) (cond b (latest (e .statement .name) (statements es)) 0) (suc (length es)) ++ recordOf [] e es ∷ []
+    go true q = records-told e q es
+    go false q = records-silent e q es

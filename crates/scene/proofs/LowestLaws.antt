@@ -16,9 +16,9 @@ use Rattle.lexer.specs.Word.{wordFault}
 use Rattle.numeral.specs.Count.{countOf}
 use Rattle.scene.specs.Links.{definition, realsUsed}
 use Rattle.scene.specs.Phase.{Phase, atAliasName, atIntegerCount, atName, atReal, atRealCount, atString, atStringCount, atTarget, atType, busy, fault, idle, outcome, realCount, reals, refuse, taken, unlessFault, word}
-use Rattle.scene.specs.Reading.{modifierTest, roomTest, surfaceTest, targetTest, test}
-use Rattle.scene.specs.Statement.{Body, Statement, alias, primitive, void}
-use Rattle.scene.specs.Types.{isSurface, realsAllowed}
+use Rattle.scene.specs.Reading.{modifierTest, roomTest, targetTest, test}
+use Rattle.scene.specs.Statement.{Statement, void}
+use Rattle.scene.specs.Types.{realsAllowed}
 use Rattle.scene.specs.declared.Settings.{Settings}
 
 fault-most : (w : Bytes) → wordFault w ≤ 3
@@ -33,15 +33,7 @@ modifier-least (some s) t e = absurd (omega (arith, e))
 
 target-least : (K : Option Statement) (t : ℕ) → targetTest K ≡ suc t → 6 ≤ suc t
 target-least none t e = omega (arith, e)
-target-least (some s) t e = body (s .body) e
-  where
-    body : (b : Body) → surfaceTest b ≡ suc t → 6 ≤ suc t
-    body (primitive k ss rs) e = go (isSurface k) e
-      where
-        go : (c : Bool) → cond c 11 0 ≡ suc t → 6 ≤ suc t
-        go true e = omega (arith, e)
-        go false e = absurd (omega (arith, e))
-    body (alias x) e = absurd (omega (arith, e))
+target-least (some s) t e = absurd (omega (arith, e))
 
 room-is : (room used : ℕ) (c : Option ℕ) (t : ℕ) → roomTest room used c ≡ suc t → 13 ≡ suc t
 room-is room used none t e = absurd (omega (arith, e))

@@ -1,6 +1,6 @@
 -- What every statement of an accepted text has: a type from 1 to 25, numerals with their own values, and an alias a type that is
 -- no surface's.
-use mathlib.Core.Bool.{Bool, true, false, cond, _&&_}
+use mathlib.Core.Bool.{Bool, true, false, cond, _&&_, true≢false}
 use mathlib.Core.List.{List, [], _∷_, _++_}
 use mathlib.Core.Logic.{_⊎_, inl, inr}
 use mathlib.Core.Option.{Option, none, some}
@@ -20,12 +20,13 @@ use Rattle.numeral.specs.Count.{countOf}
 use Rattle.numeral.specs.Numeral.{numeralOf, Answer, value, refusal}
 use Rattle.scene.proofs.AcceptLaws.{read-inv}
 use Rattle.scene.proofs.EdgeLaws.{OkMove, along}
+use Rattle.scene.proofs.GivesLaws.{resolved-no-surface}
 use Rattle.scene.proofs.PropertyLaws.{accepted-linked}
 use Rattle.scene.proofs.SwapLaws.{Linked, linked-split, bodyLink}
 use Rattle.scene.specs.HouseRules.{breach}
 use Rattle.scene.specs.Links.{hits, found, head, definition, resolve, through, bodyOf, ownBody, typeIn, realsIn}
 use Rattle.scene.specs.Phase.{Part, atType, atName, atStringCount, atString, atIntegerCount, atRealCount, atReal, atAliasName, atTarget, Phase, idle, busy, Turn, fault, onto, ends, typed, strings, stringCount, integerCount, reals, realCount, real, turn, Outcome, refuse, into, done, outcome, taken, unlessFault, word}
-use Rattle.scene.specs.Reading.{Move, keep, first, command, ended, surfaceTest, targetTest, test, Entry, Going, State, stopped, going, statements, settle, advance, initial, accepted, newline, read}
+use Rattle.scene.specs.Reading.{Move, keep, first, command, ended, targetTest, test, Entry, Going, State, stopped, going, statements, settle, advance, initial, accepted, newline, read}
 use Rattle.scene.specs.Record.{realTable}
 use Rattle.scene.specs.declared.Settings.{Settings}
 use Rattle.scene.specs.Types.{Kind, types, typeNumber, numberFrom, stringsAllowed, realsAllowed, isSurface}
@@ -214,24 +215,24 @@ accepted-finite r text es e = finite-reals (statements es) (accepted-meant r tex
 abbrev pub NoSurface : ℕ → Type 0
 NoSurface t = (10 ≤ t) × (t ≤ 25)
 
-not-surface : (t : ℕ) → IsType t → _≡_ {A = ℕ} (cond (isSurface t) 11 0) 0 → NoSurface t
-not-surface t i e = go (leb t 9) refl (sym (ap (λ (b : Bool). cond (b && leb t 9) 11 0) (le-leb 1 t (i .0))) ∙ e)
+pub not-surface : (t : ℕ) → IsType t → isSurface t ≡ false → NoSurface t
+not-surface t i e = go (leb t 9) refl (sym (ap (λ (b : Bool). b && leb t 9) (le-leb 1 t (i .0))) ∙ e)
   where
-    go : (b : Bool) → leb t 9 ≡ b → _≡_ {A = ℕ} (cond b 11 0) 0 → NoSurface t
-    go true q e = absurd (omega arith)
+    go : (b : Bool) → leb t 9 ≡ b → b ≡ false → NoSurface t
+    go true q e = absurd (true≢false e)
     go false q e = let l = leb-false t 9 q in let h = i .1 in (omega arith, omega arith)
 
-resolved-type : (d : List Statement) → Linked d → AllMeant d → (x : Bytes) → targetTest (definition x d) ≡ 0 → NoSurface (typeIn (bodyOf (resolve x d)))
+resolved-type : (d : List Statement) → Linked d → AllMeant d → (x : Bytes) → targetTest (definition x d) ≡ 0 → IsType (typeIn (bodyOf (resolve x d)))
 unfolding found resolve
 resolved-type [] l m x e = absurd (omega arith)
 resolved-type (s ∷ d) l m x e = go (hits x s) e (resolved-type d (l .1) (m .1))
   where
-    own : (b : Body) → s .body ≡ b → surfaceTest b ≡ 0 → ((y : Bytes) → targetTest (definition y d) ≡ 0 → NoSurface (typeIn (bodyOf (resolve y d)))) → NoSurface (typeIn (bodyOf (through b (s ∷ d) (λ y. resolve y d))))
-    own (primitive t ss rs) q e ih = subst (λ (b : Body). NoSurface (typeIn b)) (sym q) (not-surface t ((subst Meant q (m .0)) .0) e)
-    own (alias y) q e ih = ih y (subst (bodyLink d) q (l .0 .body))
+    own : (b : Body) → s .body ≡ b → ((y : Bytes) → targetTest (definition y d) ≡ 0 → IsType (typeIn (bodyOf (resolve y d)))) → IsType (typeIn (bodyOf (through b (s ∷ d) (λ y. resolve y d))))
+    own (primitive t ss rs) q ih = subst (λ (b : Body). IsType (typeIn b)) (sym q) ((subst Meant q (m .0)) .0)
+    own (alias y) q ih = ih y (subst (bodyLink d) q (l .0 .body))
 
-    go : (b : Bool) → targetTest (head (cond b (s ∷ d) (found x d))) ≡ 0 → ((y : Bytes) → targetTest (definition y d) ≡ 0 → NoSurface (typeIn (bodyOf (resolve y d)))) → NoSurface (typeIn (bodyOf (cond b (through (s .body) (s ∷ d) (λ y. resolve y d)) (resolve x d))))
-    go true e ih = own (s .body) refl e ih
+    go : (b : Bool) → targetTest (head (cond b (s ∷ d) (found x d))) ≡ 0 → ((y : Bytes) → targetTest (definition y d) ≡ 0 → IsType (typeIn (bodyOf (resolve y d)))) → IsType (typeIn (bodyOf (cond b (through (s .body) (s ∷ d) (λ y. resolve y d)) (resolve x d))))
+    go true e ih = own (s .body) refl ih
     go false e ih = ih x e
 
 pub meant-split : (l : List Statement) (s : Statement) (d : List Statement) → AllMeant (l ++ s ∷ d) → Meant (s .body) × AllMeant d
@@ -242,4 +243,4 @@ pub alias-type : (r : Settings) (text : Bytes) (es : List Entry) → read r text
 alias-type r text es e later s earlier q x b =
     let l = (linked-split later (s ∷ earlier) (subst Linked q (accepted-linked r text es e))) .1 in
     let m = meant-split later s earlier (subst AllMeant q (accepted-meant r text es e)) in
-    subst (λ (y : Body). NoSurface (typeIn (ownBody y earlier))) (sym b) (resolved-type earlier (l .1) (m .1) x (subst (bodyLink earlier) b (l .0 .body)))
+    subst (λ (y : Body). NoSurface (typeIn (ownBody y earlier))) (sym b) (not-surface (typeIn (bodyOf (resolve x earlier))) (resolved-type earlier (l .1) (m .1) x (subst (bodyLink earlier) b (l .0 .body))) (resolved-no-surface x earlier))

@@ -1,5 +1,5 @@
 -- Which statement a name leads to. Lists of statements stand latest first, so a statement's number is how many stand from it on.
-use mathlib.Core.Bool.{Bool, true, _&&_, cond}
+use mathlib.Core.Bool.{Bool, true, not, _&&_, cond}
 use mathlib.Core.List.{List, [], _∷_}
 use mathlib.Core.Option.{Option, none, some}
 use Prim.Native.Nat.{ℕ, zero, suc, _+_}
@@ -7,16 +7,21 @@ use lib.Ieee.{Float}
 use lib.ListN.{length}
 use Rattle.laws.specs.Bytes.{Bytes, same}
 use Rattle.scene.specs.Statement.{numbers, Body, primitive, alias, Statement, void}
+use Rattle.scene.specs.Types.{isSurface}
 
--- "A statement gives its name": each does
+-- "only types 10 to 25 may be looked up": "a surface is no definition" and "gives no name"; an alias, whose target is none, gives its own
+abbrev pub isDefinition : Body → Bool
+isDefinition (primitive t ss rs) = not (isSurface t)
+isDefinition (alias x) = true
+
 unfoldable pub gives : Statement → Bool
-gives s = true
+gives s = isDefinition (s .body)
 
--- THE rule of look-ups: a name leads to a statement that gives it, "surfaces and aliases included"
+-- THE rule of look-ups: a name leads to a statement that gives it
 unfoldable pub hits : Bytes → Statement → Bool
 hits w s = gives s && same w (s .name)
 
--- "the latest earlier primitive whose name has the same bytes": the statements from it on, none where there is none
+-- "the latest earlier non-surface of that name": the statements from it on, none where there is none
 unfoldable pub found : Bytes → List Statement → List Statement
 found w [] = []
 found w (s ∷ d) = cond (hits w s) (s ∷ d) (found w d)

@@ -12,8 +12,7 @@ use Rattle.numeral.specs.Count.{countOf}
 use Rattle.scene.specs.Links.{definition, realsUsed}
 use Rattle.scene.specs.Phase.{Part, atType, atName, atStringCount, atString, atIntegerCount, atRealCount, atReal, atAliasName, atTarget, Phase, idle, busy, Outcome, refuse, into, done, word}
 use Rattle.scene.specs.declared.Settings.{Settings}
-use Rattle.scene.specs.Types.{isSurface}
-use Rattle.scene.specs.Statement.{Body, primitive, alias, Statement, void}
+use Rattle.scene.specs.Statement.{Statement, void}
 
 -- ---- bytes into words
 
@@ -47,14 +46,10 @@ abbrev pub modifierTest : Option Statement → ℕ
 modifierTest none = 7
 modifierTest (some s) = 0
 
--- "10 alias target not defined above", "11 alias target is a surface"
-abbrev pub surfaceTest : Body → ℕ
-surfaceTest (primitive t ss rs) = cond (isSurface t) 11 0
-surfaceTest (alias x) = 0
-
+-- "10 alias target not defined above"
 abbrev pub targetTest : Option Statement → ℕ
 targetTest none = 10
-targetTest (some s) = surfaceTest (s .body)
+targetTest (some s) = 0
 
 -- "13 no room for the reals"
 abbrev pub roomTest : (room used : ℕ) → Option ℕ → ℕ

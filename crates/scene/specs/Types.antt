@@ -87,7 +87,7 @@ stringsAllowed t k = allows (kindOf t .strings) k
 unfoldable pub realsAllowed : ℕ → ℕ → Bool
 realsAllowed t k = allows (kindOf t .reals) k
 
--- "a reached type outside 1 to 25": there are 25 types
+-- there are 25 types
 abbrev pub isType : ℕ → Bool
 isType t = leb 1 t && leb t 25
 
@@ -97,3 +97,7 @@ isSurface t = leb 1 t && leb t 9
 
 abbrev pub isMaterial : ℕ → Bool
 isMaterial t = leb 10 t && leb t 24
+
+-- "primitives [are divided] into surfaces and modifiers", of which "only types 10 to 25 may be looked up"
+abbrev pub isModifier : ℕ → Bool
+isModifier t = leb 10 t && leb t 25

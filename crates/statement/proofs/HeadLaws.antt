@@ -6,7 +6,7 @@ use borrow.Author.Tests.{lt-ltb, le-ltb}
 use Rattle.laws.proofs.NatLaws.{nonzero}
 use Rattle.laws.specs.Bytes.{Bytes, same, bytes}
 use Rattle.scene.specs.Statement.{void}
-use Rattle.scene.specs.Types.{isSurface, typeNumber}
+use Rattle.scene.specs.Types.{typeNumber}
 use Rattle.statement.specs.Heads.{goingTo, kindStep, linkTo, modifierStep, nameStep, targetAt, targetStep, typedAs, withKind, withName, withTarget}
 use Rattle.statement.specs.States.{opened}
 use Rattle.statement.specs.declared.Draft.{Draft}
@@ -66,11 +66,6 @@ module _ (s : State) (v : Seen) where
   unfolding targetStep
   target-unknown z = rw z
 
-  module _ {q : Bool} (z : v .found ≡ 0 → ⊥) (e : q ≡ isSurface (v .source .kind)) where
-    pub target-surface : q ≡ true → to.Refused 11 (v .place) ≡ targetStep s v
-    unfolding targetStep
-    target-surface h = nonzero (λ n k. to.Refused 11 (v .place) ≡ targetAt s v n) (λ k. rw (← e, h)) (v .found) z
-
-    pub target-known : {d : Draft} → d ≡ withTarget (s .draft) v → q ≡ false → to.Complete (record { at = s .at; count = s .count; used = s .used; left = s .left; phase = s .phase; draft = d }) ≡ targetStep s v
-    unfolding targetStep
-    target-known {d} g h = nonzero (λ n k. to.Complete (record { at = s .at; count = s .count; used = s .used; left = s .left; phase = s .phase; draft = d }) ≡ targetAt s v n) (λ k. rw (g, ← e, h)) (v .found) z
+  pub target-known : (v .found ≡ 0 → ⊥) → {d : Draft} → d ≡ withTarget (s .draft) v → to.Complete (record { at = s .at; count = s .count; used = s .used; left = s .left; phase = s .phase; draft = d }) ≡ targetStep s v
+  unfolding targetStep
+  target-known z {d} g = nonzero (λ n k. to.Complete (record { at = s .at; count = s .count; used = s .used; left = s .left; phase = s .phase; draft = d }) ≡ targetAt s v n) (λ k. rw g) (v .found) z

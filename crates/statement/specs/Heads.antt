@@ -4,7 +4,7 @@ use Prim.Native.Nat.{ℕ, zero, suc}
 use lib.Dec.{ltb}
 use Rattle.laws.specs.Bytes.{Bytes, same, bytes}
 use Rattle.scene.specs.Statement.{void}
-use Rattle.scene.specs.Types.{isSurface, typeNumber}
+use Rattle.scene.specs.Types.{typeNumber}
 use Rattle.statement.specs.States.{opened}
 use Rattle.statement.specs.declared.Draft.{Draft}
 use Rattle.statement.specs.declared.Phase.{Phase}
@@ -56,10 +56,10 @@ kindStep w s v = cond (same w (bytes "alias")) (goingTo s is.AliasName 0 (s .dra
 unfoldable pub nameStep : Phase → Bytes → State → Seen → Step
 nameStep next w s v = cond (same w void) (to.Refused 9 (v .place)) (goingTo s next 0 (withName (s .draft) (v .name) (v .size)))
 
--- "10 alias target not defined above", then "11 alias target is a surface"
+-- "10 alias target not defined above"
 abbrev pub targetAt : State → Seen → ℕ → Step
 targetAt s v zero = to.Refused 10 (v .place)
-targetAt s v (suc j) = cond (isSurface (v .source .kind)) (to.Refused 11 (v .place)) (to.Complete (record { at = s .at; count = s .count; used = s .used; left = s .left; phase = s .phase; draft = withTarget (s .draft) v }))
+targetAt s v (suc j) = to.Complete (record { at = s .at; count = s .count; used = s .used; left = s .left; phase = s .phase; draft = withTarget (s .draft) v })
 
 -- an alias target's word
 unfoldable pub targetStep : State → Seen → Step

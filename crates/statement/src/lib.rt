@@ -222,10 +222,6 @@ pub fn target(s: State, v: Seen) -> Step
     if v.found == 0 {
         return Step::Refused(10, v.place);
     }
-    let o = v.source;
-    if kinds::is_surface(o.kind) {
-        return Step::Refused(11, v.place);
-    }
     let mut t = s;
     t.draft = of_target(s.draft, v);
     Step::Complete(t)

@@ -107,22 +107,19 @@ fn count_word(random: &mut Random, n: usize) -> Vec<u8> {
     format!("{n:0width$}").into_bytes()
 }
 
-/// What stands above a statement: names that were given, and which of them by a surface.
+/// The names that stand above a statement: all of them, and those that can be looked up, which surfaces' cannot.
 #[derive(Default)]
 struct Given {
     all: Words,
-    not_surfaces: Words,
+    definitions: Words,
 }
 
 /// A statement that is likely to be accepted.
 fn statement(random: &mut Random, given: &mut Given) -> Words {
-    let modifier = match given.all.is_empty() || random.percent(30) {
-        true => b"void".to_vec(),
-        false => random.pick(&given.all).clone(),
-    };
+    let modifier = given.modifier(random);
     let name = name(random);
-    if !given.not_surfaces.is_empty() && random.percent(20) {
-        let target = random.pick(&given.not_surfaces).clone();
+    if !given.definitions.is_empty() && random.percent(20) {
+        let target = random.pick(&given.definitions).clone();
         given.give(&name, false);
         return vec![modifier, b"alias".to_vec(), name, target];
     }
@@ -146,9 +143,22 @@ impl Given {
         if !name.starts_with(b"#") && !name.starts_with(b"!") {
             self.all.push(name.to_vec());
         }
-        self.not_surfaces.retain(|other| other != name);
         if !surface {
-            self.not_surfaces.push(name.to_vec());
+            self.definitions.push(name.to_vec());
+        }
+    }
+
+    /// A modifier that is likely to be accepted: now and then it has a surface's name.
+    fn modifier(&self, random: &mut Random) -> Vec<u8> {
+        let names = if random.percent(3) { &self.all } else { &self.definitions };
+        if names.is_empty() || random.percent(30) {
+            return b"void".to_vec();
+        }
+        let name = random.pick(names).clone();
+        if self.all.contains(&name) {
+            name
+        } else {
+            b"void".to_vec()
         }
     }
 }

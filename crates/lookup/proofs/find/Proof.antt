@@ -1,4 +1,5 @@
 -- `lookup::find` meets its contract.
+use mathlib.Core.Bool.{Bool, true, false}
 use mathlib.Core.List.{List}
 use mathlib.Core.Logic.{_⊎_, inl, inr}
 use mathlib.Core.Path.{_≡_, refl, sym, ap, subst, _∙_}
@@ -9,9 +10,10 @@ use borrow.Author.Needs.{needs}
 use lib.ListN.{length, getD}
 use Rattle.laws.proofs.NatLaws.{le-or-lt}
 use Rattle.laws.specs.Bytes.{Bytes}
-use Rattle.lookup.proofs.LookupLaws.{find-nothing, find-short, find-sized, find-beyond, find-fits, find-byte, find-hit, find-none}
+use Rattle.lookup.proofs.LookupLaws.{find-nothing, find-short, find-sized, find-beyond, find-fits, find-byte, find-hit, find-surface, find-none}
 use Rattle.lookup.specs.Lookup.{latestIn}
 use Rattle.scene.specs.Record.{width}
+use Rattle.scene.specs.Types.{isSurface}
 use Rattle.lookup.proofs.find.Statement.{statement}
 use Rattle.lookup.proofs.find.Tie as tie
 
@@ -74,6 +76,22 @@ module _ (c : tie.Else5 Inv-loop μ-loop Inv-search μ-search) where
       let at-wide = c .before .before .before .before in
       let at-if3 = at-wide .before .before in
       find-byte text records word (at-if3 .before .before .before .if2 .left) _ refl number (at-if3 .if3 .left) _ _ (c .before .wide2 .ensures) (at-wide .wide .ensures) (c .before .before .before .if4 .left) (c .if5 .left) i l h
+
+  module _ (h : (k : ℕ) → k < length word → getD text (c .before .wide2 .result + k) 0 ≡ getD word k 0) where
+    abbrev surface : Bool
+    surface = isSurface (getD records ((number - 1) * width + 0) 0)
+
+    hit : surface ≡ false → latestIn text records word number ≡ number
+    hit k =
+        let at-wide = c .before .before .before .before in
+        let at-if3 = at-wide .before .before in
+        find-hit text records word (at-if3 .before .before .before .if2 .left) _ refl number (at-if3 .if3 .left) _ _ (c .before .wide2 .ensures) (at-wide .wide .ensures) (c .before .before .before .if4 .left) (c .if5 .left) h k
+
+    passes : surface ≡ true → latestIn text records word number ≡ latestIn text records word (number - 1)
+    passes k =
+        let at-wide = c .before .before .before .before in
+        let at-if3 = at-wide .before .before in
+        find-surface text records word (at-if3 .before .before .before .if2 .left) _ refl number (at-if3 .if3 .left) _ _ (c .before .wide2 .ensures) (at-wide .wide .ensures) (c .before .before .before .if4 .left) (c .if5 .left) h k
 
 least-requires : tie.Need-least-requires Inv-loop μ-loop Inv-search μ-search
 least-requires c κs = search needs
@@ -200,6 +218,30 @@ loop-less c = search needs
 loop-again : tie.Need-loop-again Inv-loop μ-loop Inv-search μ-search
 loop-again c = (search needs, one-more _ _ _ (c .before .before .before .loop-test .taken) (c .before .before .before .before .loop .inv .1) (c .if7 .left))
 
+mul-is-surface : tie.Need-mul-is-surface Inv-loop μ-loop Inv-search μ-search
+mul-is-surface c = search needs
+
+add-is-surface : tie.Need-add-is-surface Inv-loop μ-loop Inv-search μ-search
+add-is-surface c = search needs
+
+mul-is-surface-2 : tie.Need-mul-is-surface-2 Inv-loop μ-loop Inv-search μ-search
+mul-is-surface-2 c = search needs
+
+shared-slice-read-is-surface : tie.Need-shared-slice-read-is-surface Inv-loop μ-loop Inv-search μ-search
+shared-slice-read-is-surface c = search needs
+
+is-surface-requires : tie.Need-is-surface-requires Inv-loop μ-loop Inv-search μ-search
+is-surface-requires c κs = search needs
+
+search-less-5 : tie.Need-search-less-5 Inv-loop μ-loop Inv-search μ-search
+search-less-5 c = search needs
+
+search-again-5 : tie.Need-search-again-5 Inv-loop μ-loop Inv-search μ-search
+search-again-5 c =
+    let at-loop-test = c .before .before .before in
+    let at-if5 = at-loop-test .before .before .before .before in
+    (search needs, at-if5 .before .before .before .before .before .before .before .search .inv .1 ∙ passes at-if5 (λ k l. at-loop-test .before .loop .inv .1 k (omega (arith, at-loop-test .loop-test .left)) l) (sym (c .before .is-surface .ensures) ∙ c .if8 .taken))
+
 add-found : tie.Need-add-found Inv-loop μ-loop Inv-search μ-search
 add-found c = search needs
 
@@ -208,14 +250,12 @@ returns-3 c = sym (c .before .search .inv .1 ∙ ap (latestIn _ _ _) (c .if3 .ta
 
 returns-4 : tie.Need-returns-4 Inv-loop μ-loop Inv-search μ-search
 returns-4 c =
-    let at-if5 = c .before .before .before .before in
-    let at-wide = at-if5 .before .before .before .before in
-    let at-if3 = at-wide .before .before in
-    let at-search = at-if3 .before in
-    let at-if2 = at-search .before .before in
-    let a = at-if2 .before .before .before .before .before .before .args in
-    let e : at-search .search .n - 1 + 1 ≡ at-search .search .n = omega (arith, at-if3 .if3 .left) in
-    e ∙ sym (at-search .search .inv .1 ∙ find-hit (a .text .now) (a .records .now) (a .word .now) (at-if2 .if2 .left) _ refl (at-search .search .n) (at-if3 .if3 .left) _ _ (at-if5 .before .wide2 .ensures) (at-wide .wide .ensures) (at-if5 .before .before .before .if4 .left) (at-if5 .if5 .left) (λ k l. c .before .loop .inv .1 k (omega (arith, c .loop-test .left)) l))
+    let at-loop-test = c .before .before .before in
+    let at-if5 = at-loop-test .before .before .before .before in
+    let at-if3 = at-if5 .before .before .before .before .before .before in
+    let n = at-if3 .before .search .n in
+    let e : n - 1 + 1 ≡ n = omega (arith, at-if3 .if3 .left) in
+    e ∙ sym (at-if3 .before .search .inv .1 ∙ hit at-if5 (λ k l. at-loop-test .before .loop .inv .1 k (omega (arith, at-loop-test .loop-test .left)) l) (sym (c .before .is-surface .ensures) ∙ c .if8 .left))
 
 pub find-spec : {M : Type 1} → statement M
 find-spec =
@@ -261,6 +301,13 @@ find-spec =
     search-again-4
     loop-less
     loop-again
+    mul-is-surface
+    add-is-surface
+    mul-is-surface-2
+    shared-slice-read-is-surface
+    is-surface-requires
+    search-less-5
+    search-again-5
     add-found
     returns-3
     returns-4)

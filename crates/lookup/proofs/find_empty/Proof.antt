@@ -5,6 +5,7 @@ use native.Mathlib.Omega.{arith}
 use borrow.Author.Needs.{needs}
 use Rattle.lookup.proofs.LookupLaws.{empty-hit, empty-miss, find-none}
 use Rattle.lookup.specs.Lookup.{latestIn}
+use Rattle.scene.specs.Types.{isSurface}
 use Rattle.lookup.proofs.find_empty.Statement.{statement}
 use Rattle.lookup.proofs.find_empty.Tie as tie
 
@@ -26,11 +27,18 @@ field-requires-2 c κs = search needs
 wide-requires : tie.Need-wide-requires Inv-loop μ-loop
 wide-requires c κs = search needs
 
+field-requires-3 : tie.Need-field-requires-3 Inv-loop μ-loop
+field-requires-3 c κs = search needs
+
+is-surface-requires : tie.Need-is-surface-requires Inv-loop μ-loop
+is-surface-requires c κs = search needs
+
 returns : tie.Need-returns Inv-loop μ-loop
 returns c =
-    let at-field = c .before .before .before in
+    let at-wide = c .before .before .before in
+    let at-field = at-wide .before .before in
     let at-loop = at-field .before .before in
-    sym (at-loop .loop .inv ∙ empty-hit _ _ _ (at-field .before .loop-test .taken) _ _ (at-field .field .ensures) (c .before .wide .ensures ∙ c .before .before .field2 .ensures) (c .if1 .taken))
+    sym (at-loop .loop .inv ∙ empty-hit _ _ _ (at-field .before .loop-test .taken) _ _ _ (at-field .field .ensures) (at-wide .wide .ensures ∙ at-wide .before .field2 .ensures) (c .before .is-surface .ensures ∙ ap isSurface (c .before .before .field3 .ensures)) (c .if1 .taken))
 
 sub-n : tie.Need-sub-n Inv-loop μ-loop
 sub-n c = search needs
@@ -40,9 +48,10 @@ loop-less c = search needs
 
 loop-again : tie.Need-loop-again Inv-loop μ-loop
 loop-again c =
-    let at-field = c .before .before .before in
+    let at-wide = c .before .before .before in
+    let at-field = at-wide .before .before in
     let at-loop = at-field .before .before in
-    at-loop .loop .inv ∙ empty-miss _ _ _ (at-field .before .loop-test .taken) _ _ (at-field .field .ensures) (c .before .wide .ensures ∙ c .before .before .field2 .ensures) (c .if1 .left)
+    at-loop .loop .inv ∙ empty-miss _ _ _ (at-field .before .loop-test .taken) _ _ _ (at-field .field .ensures) (at-wide .wide .ensures ∙ at-wide .before .field2 .ensures) (c .before .is-surface .ensures ∙ ap isSurface (c .before .before .field3 .ensures)) (c .if1 .left)
 
 returns-2 : tie.Need-returns-2 Inv-loop μ-loop
 returns-2 c = sym (c .before .loop .inv ∙ ap (latestIn _ _ []) (omega arith) ∙ find-none _ _ [])
@@ -57,6 +66,8 @@ find-empty-spec =
     field-requires
     field-requires-2
     wide-requires
+    field-requires-3
+    is-surface-requires
     returns
     sub-n
     loop-less

@@ -4,7 +4,6 @@ use mathlib.Core.List.{List, [], _++_}
 use mathlib.Core.Path.{_≡_, refl, ap, sym, _∙_}
 use Prim.Native.Nat.{ℕ, _≤_, _<_}
 use native.Mathlib.Nat.{sub-zero}
-use native.Mathlib.Omega.{arith}
 use borrow.Author.Tests.{le-leb, lt-leb}
 use lib.Ieee.{Float}
 use lib.ListN.{length, length-replicate, replicate}
@@ -12,6 +11,7 @@ use Rattle.driver.specs.Ending.{Ends, ending}
 use Rattle.driver.specs.Invariant.{Accepts, Inv, result}
 use Rattle.driver.specs.declared.End.the-variants.{Accepted, Refused}
 use Rattle.laws.specs.Bytes.{Bytes}
+use Rattle.scene.proofs.ImageLaws.{zero-reals, zero-records}
 use Rattle.scene.specs.HouseRules.{zeroReal}
 use Rattle.scene.specs.Links.{realsUsed}
 use Rattle.scene.specs.Phase.{idle}
@@ -31,24 +31,23 @@ module _ (text : Bytes) (T₀ : List ℕ) (D₀ : List Float) where
   abbrev reading : Reading
   reading = read (settingsFor (length T₀) (length D₀)) text
 
-  refuses-with : (n p : ℕ) (T : List ℕ) (D : List Float) → reading ≡ refused n p → Ends text T₀ D₀ (Refused n p) T D
-  refuses-with n p T D e = record {
-    says = ap ending (sym e);
-    table = λ m k q. let z : _≡_ {A = ℕ} 0 1 = cc in absurd (omega arith);
-    doubles = λ m k q. let z : _≡_ {A = ℕ} 0 1 = cc in absurd (omega arith);
-  }
+  -- a refusal, with both tables cleared
+  module _ (T : List ℕ) (D : List Float) (t : T ≡ replicate (length T₀) 0) (d : D ≡ replicate (length D₀) zeroReal) where
+    pub refuses-with : (n p : ℕ) → reading ≡ refused n p → Ends text T₀ D₀ (Refused n p) T D
+    refuses-with n p e = record {
+      says = ap ending (sym e);
+      table = t ∙ zero-records text (length T₀) n p ∙ ap (recordImage text (length T₀)) (sym e);
+      doubles = d ∙ zero-reals (length D₀) n p ∙ ap (realImage (length D₀)) (sym e);
+    }
 
-  pub too-long : 65536 < length text → (T : List ℕ) (D : List Float) → Ends text T₀ D₀ (Refused 1 0) T D
-  unfolding read
-  too-long h T D = refuses-with 1 0 T D (ap (λ (b : Bool). cond b (result text (settingsFor (length T₀) (length D₀))) (refused 1 0)) (lt-leb (length text) 65536 h))
+    pub too-long : 65536 < length text → Ends text T₀ D₀ (Refused 1 0) T D
+    unfolding read
+    too-long h = refuses-with 1 0 (ap (λ (b : Bool). cond b (result text (settingsFor (length T₀) (length D₀))) (refused 1 0)) (lt-leb (length text) 65536 h))
 
   -- the tables when reading ends
   module _ (T : List ℕ) (D : List Float) (room : Settings) (s : State) (I : Inv text T D room s) (l : length T ≡ length T₀) (m : length D ≡ length D₀) where
-    reads-as : reading ≡ result text room
+    pub reads-as : reading ≡ result text room
     reads-as = ap (λ (z : Settings). read z text) (sym (I .settings ∙ (λ i. settingsFor (l i) (m i)))) ∙ short-read room text (I .short)
-
-    pub ends-refused : (n p : ℕ) → result text room ≡ refused n p → Ends text T₀ D₀ (Refused n p) T D
-    ends-refused n p e = refuses-with n p T D (reads-as ∙ e)
 
     pub ends-accepted : (n k : ℕ) → Accepts text T D room n k → Ends text T₀ D₀ (Accepted n k) T D
     unfolding recordImage realImage
@@ -56,8 +55,8 @@ module _ (text : Bytes) (T₀ : List ℕ) (D₀ : List Float) where
         let e : reading ≡ accepted (A .entries) = reads-as ∙ A .accepts in
         record {
           says = (λ i. Accepted (A .count i) (A .used i)) ∙ ap ending (sym e);
-          table = λ n k q. A .stored ∙ ap (λ (z : ℕ). filled 0 z (flat text (records (A .entries)))) l ∙ ap (recordImage text (length T₀)) (sym e);
-          doubles = λ n k q. A .doubles ∙ ap (λ (z : ℕ). filled zeroReal z (realTable (A .entries))) m ∙ ap (realImage (length D₀)) (sym e);
+          table = A .stored ∙ ap (λ (z : ℕ). filled 0 z (flat text (records (A .entries)))) l ∙ ap (recordImage text (length T₀)) (sym e);
+          doubles = A .doubles ∙ ap (λ (z : ℕ). filled zeroReal z (realTable (A .entries))) m ∙ ap (realImage (length D₀)) (sym e);
         }
 
   -- two cleared tables

@@ -15,8 +15,8 @@ abbrev pub ending : Reading → End
 ending (refused n p) = Refused n p
 ending (accepted es) = Accepted (length es) (length (realTable es))
 
--- one call: the tables as they were lent, how it ends, and the tables at exit, which after a refusal may hold anything
+-- one call: the tables as they were lent, how it ends, and the tables at exit
 pub record Ends (text : Bytes) (records : List ℕ) (reals : List Float) (r : End) (records′ : List ℕ) (reals′ : List Float) : Type 0 where
   pub says : r ≡ ending (read (settingsFor (length records) (length reals)) text)
-  pub table : (n k : ℕ) → r ≡ Accepted n k → records′ ≡ recordImage text (length records) (read (settingsFor (length records) (length reals)) text)
-  pub doubles : (n k : ℕ) → r ≡ Accepted n k → reals′ ≡ realImage (length reals) (read (settingsFor (length records) (length reals)) text)
+  pub table : records′ ≡ recordImage text (length records) (read (settingsFor (length records) (length reals)) text)
+  pub doubles : reals′ ≡ realImage (length reals) (read (settingsFor (length records) (length reals)) text)

@@ -9,7 +9,7 @@ pub enum End {
     Refused(u32, usize),
 }
 
-// Reads a scene text into the lent tables, which it clears first. After a refusal they may hold anything.
+// Reads a scene text into the lent tables, which it clears first, and again after a refusal.
 pub fn run(text: &[u8], records: &mut [u32], reals: &mut [f64]) -> End
     ensures { λ r. ⌜ Ends (now (text .entry)) (now (records .entry)) (now (reals .entry)) r (now (records .exit)) (now (reals .exit)) ⌝ }
 {
@@ -42,6 +42,7 @@ pub fn run(text: &[u8], records: &mut [u32], reals: &mut [f64]) -> End
                 s = statement::between(t.at, t.count + 1, t.used);
             }
             Step::Refused(reason, place) => {
+                table::clear(records, reals);
                 return End::Refused(reason, place);
             }
             Step::Ended => {

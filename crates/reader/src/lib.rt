@@ -15,9 +15,6 @@ pub fn read(text: &[u8], records: &mut [u32], reals: &mut [f64]) -> Answer
 {
     match driver::run(text, records, reals) {
         End::Accepted(n, k) => Answer::Accepted(n, k),
-        End::Refused(reason, place) => {
-            table::clear(records, reals);
-            Answer::Refused(reason, place)
-        }
+        End::Refused(reason, place) => Answer::Refused(reason, place),
     }
 }

@@ -1,13 +1,14 @@
 -- `driver::run` meets its contract.
-use mathlib.Core.Path.{_≡_, refl, sym, subst, _∙_}
-use Prim.Native.Nat.{_+_, _-_}
+use mathlib.Core.Path.{_≡_, refl, sym, ap, subst, _∙_}
+use Prim.Native.Nat.{ℕ, _+_, _-_}
 use native.Mathlib.Omega.{arith}
 use borrow.Author.Needs.{needs}
-use lib.ListN.{length, length-set}
-use Rattle.driver.proofs.EndLaws.{ends-accepted, ends-refused, first-inv, too-long}
+use lib.ListN.{length, length-set, replicate}
+use Rattle.driver.proofs.EndLaws.{ends-accepted, first-inv, reads-as, refuses-with, too-long}
 use Rattle.driver.proofs.MoveLaws.{gets-on}
 use Rattle.driver.proofs.NextLaws.{ready}
 use Rattle.driver.specs.Invariant.{Inv}
+use Rattle.scene.specs.HouseRules.{zeroReal}
 use Rattle.driver.proofs.run.Statement.{statement}
 use Rattle.driver.proofs.run.Tie as tie
 
@@ -27,7 +28,11 @@ same-length-2 : tie.Need-same-length-2 Inv-loop μ-loop
 same-length-2 c = search needs
 
 returns : tie.Need-returns Inv-loop μ-loop
-returns c = let a = c .before .before .before .before .before .before .before .before .before .before .before .args in too-long (a .text .now) (a .records .now) (a .reals .now) (c .if1 .taken) _ _
+unfolding lib.Ieee.ofBits
+returns c =
+    let at-clear = c .before .before .before .before .before in
+    let a = at-clear .before .before .before .before .before .before .args in
+    too-long (a .text .now) (a .records .now) (a .reals .now) _ _ (at-clear .clear .ensures .0) (at-clear .clear .ensures .1) (c .if1 .taken)
 
 settings-for-requires : tie.Need-settings-for-requires Inv-loop μ-loop
 settings-for-requires c κs = search needs
@@ -171,20 +176,33 @@ loop-again-4 c =
 enum-known-reason : tie.Need-enum-known-reason Inv-loop μ-loop
 enum-known-reason c = search needs
 
+clear-requires-2 : tie.Need-clear-requires-2 Inv-loop μ-loop
+clear-requires-2 c κs = search needs
+
 same-length-3 : tie.Need-same-length-3 Inv-loop μ-loop
-same-length-3 c = c .before .before .before .before .before .before .loop .inv .1 ∙ c .before .before .before .before .before .before .before .before .before .before .before .before .before .before .clear .kept .0
+same-length-3 c =
+    let at-clear2 = c .before .before .before .before in
+    let at-loop = at-clear2 .before .before .before .before .before .before .before .before .before in
+    at-clear2 .clear2 .kept .0 ∙ at-loop .loop .inv .1 ∙ at-loop .before .before .before .before .before .before .before .before .clear .kept .0
 
 same-length-4 : tie.Need-same-length-4 Inv-loop μ-loop
-same-length-4 c = c .before .before .before .before .before .before .loop .inv .2 ∙ c .before .before .before .before .before .before .before .before .before .before .before .before .before .before .clear .kept .1 .0
+same-length-4 c =
+    let at-clear2 = c .before .before .before .before in
+    let at-loop = at-clear2 .before .before .before .before .before .before .before .before .before in
+    at-clear2 .clear2 .kept .1 .0 ∙ at-loop .loop .inv .2 ∙ at-loop .before .before .before .before .before .before .before .before .clear .kept .1 .0
 
 returns-2 : tie.Need-returns-2 Inv-loop μ-loop
+unfolding lib.Ieee.ofBits
 returns-2 c =
-    let at-step = c .before .before .before in
+    let at-clear2 = c .before .before .before .before in
+    let at-step = at-clear2 .before .before .before .before .before .before in
     let at-loop = at-step .before .before .before in
-    let r = ready _ _ _ _ _ (at-loop .loop .inv .0) _ _ (at-step .next-step .ensures) (c .before .reason .given .1) in
+    let r = ready _ _ _ _ _ (at-loop .loop .inv .0) _ _ (at-step .next-step .ensures) (at-clear2 .before .before .before .before .reason .given .1) in
     let at-clear = at-loop .before .before .before .before .before .before .before .before in
     let a = at-clear .before .before .before .before .before .before .args in
-    ends-refused (a .text .now) (a .records .now) (a .reals .now) _ _ _ _ (at-loop .loop .inv .0) (at-loop .loop .inv .1 ∙ at-clear .clear .kept .0) (at-loop .loop .inv .2 ∙ at-clear .clear .kept .1 .0) _ _ r
+    let l = at-loop .loop .inv .1 ∙ at-clear .clear .kept .0 in
+    let m = at-loop .loop .inv .2 ∙ at-clear .clear .kept .1 .0 in
+    refuses-with (a .text .now) (a .records .now) (a .reals .now) _ _ (at-clear2 .clear2 .ensures .0 ∙ ap (λ (n : ℕ). replicate n 0) l) (at-clear2 .clear2 .ensures .1 ∙ ap (λ (n : ℕ). replicate n zeroReal) m) _ _ (reads-as (a .text .now) (a .records .now) (a .reals .now) _ _ _ _ (at-loop .loop .inv .0) l m ∙ r)
 
 enum-told : tie.Need-enum-told Inv-loop μ-loop
 enum-told c = search needs
@@ -241,6 +259,7 @@ run-spec =
     loop-less-4
     loop-again-4
     enum-known-reason
+    clear-requires-2
     same-length-3
     same-length-4
     returns-2

@@ -12,7 +12,7 @@ use Rattle.reader.proofs.ReadsLaws.{accepted-as}
 use Rattle.reader.specs.Answer.{Reads, readInto}
 use Rattle.reader.specs.Links.{ReaderLinks, RowLinks}
 use Rattle.reader.specs.declared.Answer.{Answer}
-use Rattle.scene.proofs.PropertyLaws.{modifier-latest, modifier-void, next-least, target-latest, target-none}
+use Rattle.scene.proofs.PropertyLaws.{modifier-latest, modifier-void, next-least, target-latest, target-none, next-silent}
 use Rattle.scene.specs.Properties.{LatestBelow, Named, NextAbove, numbered}
 use Rattle.scene.specs.Reading.{Entry, accepted, statements}
 use Rattle.scene.specs.Record.{Record, settingsFor}
@@ -28,6 +28,7 @@ module _ (text : Bytes) (lent : List ℕ) (doubles : List Float) (a : Answer) (t
         modifier = λ v. subst (λ (z : Record). LatestBelow (statements es) k (s .modifier) (z .modifier)) (sym q) (modifier-latest r text es e k s there v);
         noTarget = λ t ss rs b. ap (λ (z : Record). z .target) q ∙ target-none r text es e k s there t ss rs b;
         target = λ x b. subst (λ (z : Record). LatestBelow (statements es) k x (z .target)) (sym q) (target-latest r text es e k s there x b);
+        noNext = λ g. ap (λ (z : Record). z .next) q ∙ next-silent r text es e k s there g;
         next = λ g. subst (λ (z : Record). ((z .next ≡ 0) × ((m : ℕ) → k < m → Named (statements es) m (s .name) → ⊥)) ⊎ NextAbove (statements es) k (s .name) (z .next)) (sym q) (next-least r text es e k s there g);
       }
 

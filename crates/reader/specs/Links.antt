@@ -21,6 +21,7 @@ pub record RowLinks (d : List Statement) (table : List ℕ) (k : ℕ) (s : State
   pub modifier : same (s .modifier) void ≡ false → LatestBelow d k (s .modifier) (recordIn table k .modifier)
   pub noTarget : (t : ℕ) (ss : List Bytes) (rs : List Literal) → s .body ≡ primitive t ss rs → recordIn table k .target ≡ 0
   pub target : (x : Bytes) → s .body ≡ alias x → LatestBelow d k x (recordIn table k .target)
+  pub noNext : gives s ≡ false → recordIn table k .next ≡ 0
   pub next : gives s ≡ true → ((recordIn table k .next ≡ 0) × ((m : ℕ) → k < m → Named d m (s .name) → ⊥)) ⊎ NextAbove d k (s .name) (recordIn table k .next)
 
 -- the text is read as some entries, and each record's links are right among their statements

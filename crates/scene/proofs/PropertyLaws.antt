@@ -219,10 +219,16 @@ module _ (r : Settings) (text : Bytes) (es : List Entry) (reads : read r text �
       let d = target-defined (definition x earlier) (subst (bodyLink earlier) b (linked .body)) in
       subst (LatestBelow (statements es) k x) (sym (target-is ∙ ap (λ (y : Body). targetLink y earlier) b)) (latest-here x (d .0) (d .1))
 
-  -- "number of the next primitive of the same name (0 if none)"
-  next-is : gives s ≡ true → nth (records es) k .next ≡ firstLater (s .name) (statements (here .l)) (length (s ∷ earlier))
+  -- "number of the next primitive of the same name (0 if none)", "0 for surfaces"
+  next-by : (b : Bool) → gives s ≡ b → nth (records es) k .next ≡ cond b (firstLater (s .name) (statements (here .l)) (suc (length earlier))) 0
   unfolding recordOf
-  next-is g = ap (λ (x : Record). x .next) record-is ∙ ap (λ (x : Statement). nextOf (statements (here .l)) x earlier) own ∙ ap (λ (b : Bool). cond b (firstLater (s .name) (statements (here .l)) (suc (length earlier))) 0) g
+  next-by b g = ap (λ (x : Record). x .next) record-is ∙ ap (λ (x : Statement). nextOf (statements (here .l)) x earlier) own ∙ ap (λ (c : Bool). cond c (firstLater (s .name) (statements (here .l)) (suc (length earlier))) 0) g
+
+  next-is : gives s ≡ true → nth (records es) k .next ≡ firstLater (s .name) (statements (here .l)) (length (s ∷ earlier))
+  next-is g = next-by true g
+
+  pub next-silent : gives s ≡ false → nth (records es) k .next ≡ 0
+  next-silent g = next-by false g
 
   pub next-least : gives s ≡ true → ((nth (records es) k .next ≡ 0) × ((m : ℕ) → k < m → Named (statements es) m (s .name) → ⊥)) ⊎ NextAbove (statements es) k (s .name) (nth (records es) k .next)
   next-least g = go (subst (FirstOrNone (s .name) (statements (here .l)) (s ∷ earlier)) (sym (next-is g)) (first-or-none (s .name) (statements (here .l)) (s ∷ earlier)))

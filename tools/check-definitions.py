@@ -7,6 +7,7 @@ Each text becomes a row that the prover computes: the answer's four numbers, the
 written to a copy of the repository in a temporary folder, since computing them takes longer than the gate should. Needs rt."""
 import collections
 import pathlib
+import re
 import shutil
 import subprocess
 import sys
@@ -16,6 +17,7 @@ import scene
 import texts
 
 TOP = pathlib.Path(__file__).resolve().parent.parent
+OTHERS = "samples|bits|comparison|content|keys"  # crates that the samples use and a reading does not
 
 
 def expected(text, records, reals):
@@ -32,7 +34,7 @@ def numbers(ns):
 count = int(sys.argv[1]) if len(sys.argv) > 1 else 400
 seed = int(sys.argv[2]) if len(sys.argv) > 2 else 1
 opened = (TOP / "crates/samples/proofs/SampleLaws.antt").read_text()
-uses = [line for line in opened.split("\n") if line.startswith("use ") and "proofs" not in line and "samples" not in line]
+uses = [line for line in opened.split("\n") if line.startswith("use ") and "proofs" not in line and not re.search("·(%s)[.·]" % OTHERS, line)]
 names = [line[len("unfolding ") :] for line in opened.split("\n") if line.startswith("unfolding ")][:2]
 rows, reasons = [], collections.Counter()
 for k, (text, records, reals) in enumerate(texts.texts(seed, count, 3)):
@@ -51,7 +53,7 @@ with tempfile.TemporaryDirectory() as folder:
     (crate / "src" / "lib.rt").write_text("// Rows computed from the definitions.\n")
     (crate / "specs" / "Lib.antt").write_text("pub mod Rows\n")
     head = [line.replace("Rattle.scene.specs", "Rattle.scene") for line in uses]
-    head += ["use mathlib.Core.List.{map}", "use lib.Ieee.{binary64, toBits}", "use Rattle.scene.specs.Record.{answer, flat, fields}", "use Rattle.scene.specs.declared.Settings.{Settings}"]
+    head += ["use mathlib.Core.List.{map}", "use lib.Ieee.{binary64}", "use Rattle.scene.specs.Record.{answer, flat, fields}", "use Rattle.scene.specs.declared.Settings.{Settings}"]
     everything = "everything : ℕ\nunfolding " + names[0] + " " + names[1].replace("readings ", "") + " flat toBits\neverything = 0\n"
     facts = (
         "facts : Settings → Bytes → List ℕ\n"

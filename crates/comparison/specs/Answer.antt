@@ -24,9 +24,9 @@ stateNumber is.OnlyRight = 2
 stateNumber is.Changed = 3
 
 -- 0 for the end and 1 for a line
-abbrev pub kindOf : Next → ℕ
-kindOf next.End = 0
-kindOf (next.Line p n s) = 1
+abbrev pub kindNumber : Next → ℕ
+kindNumber next.End = 0
+kindNumber (next.Line p n s) = 1
 
 -- a line's side, number, nth and state
 abbrev pub valuesOf : Next → List ℕ

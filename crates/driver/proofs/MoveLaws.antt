@@ -164,7 +164,7 @@ module _ (text : Bytes) (table : List ℕ) (reals : List Float) (room : Settings
       (bytes-ahead ∙ ap {B = Bytes} (λ (x : Bytes). c ∷ x) (ap {B = Bytes} (λ (x : Bytes). x ++ newline) (sym (take-append-drop n t)) ∙ append-assoc (take n t) (drop n t) newline ∙ ap {B = Bytes} (λ (x : Bytes). take n t ++ x) (beh .split ∙ ap {B = Bytes} (λ (b : ℕ). b ∷ beh .rest) ten) ∙ sym (append-assoc (take n t) (10 ∷ []) (beh .rest))))
       (omega (arith, size, length-append (take n t) (10 ∷ []), shorter))
       (subst (λ (ph : Phase). run room (goingAt (s .at) gap ph (I .places) (I .above)) (c ∷ (take n t ++ 10 ∷ [])) ≡ goingAt (past isInLine text (s .at) + 1) gap ph (I .places) (I .above)) (sym (o .0))
-      ((λ i. run room (advance room (record { at = s .at; mode = gap; phase = idle; places = I .places; above = I .above }) (cond (other i) (keep gap) (cond (o .1 i) (keep comment) (cond (eqb c (byte "!")) command (first c))))) (take n t ++ 10 ∷ [])) ∙
+      ((λ i. run room (advance room (record { at = s .at; scan = gap; phase = idle; places = I .places; above = I .above }) (cond (other i) (keep gap) (cond (o .1 i) (keep comment) (cond (eqb c (byte "!")) command (first c))))) (take n t ++ 10 ∷ [])) ∙
       run-comment room idle (I .above) (suc (s .at)) (I .places) (take n t) [] (run-all isInLine t) ∙ ap (λ (n : ℕ). goingAt n gap idle (I .places) (I .above)) num))
     where
       n : ℕ
@@ -193,7 +193,7 @@ module _ (text : Bytes) (table : List ℕ) (reals : List Float) (room : Settings
   at-command op =
       ap (finish (length text)) (ap (run room initial) (I .whole) ∙ on text table reals room s I (I .rest) ∙ ap (run room (goingAt (s .at) gap (I .phase) (I .places) (I .above))) (ahead text table reals room s I ∙ bytes-ahead) ∙
       ap (λ (ph : Phase). run room (goingAt (s .at) gap ph (I .places) (I .above)) (c ∷ (t ++ newline))) (o .0) ∙
-      (λ i. run room (advance room (record { at = s .at; mode = gap; phase = idle; places = I .places; above = I .above }) (cond (other i) (keep gap) (o .1 i))) (t ++ newline)) ∙
+      (λ i. run room (advance room (record { at = s .at; scan = gap; phase = idle; places = I .places; above = I .above }) (cond (other i) (keep gap) (o .1 i))) (t ++ newline)) ∙
       run-stopped room 4 (s .at) (t ++ newline))
     where
       o : (I .phase ≡ idle) × (begins idle c ≡ command)

@@ -73,7 +73,7 @@ more-real l D x n u d q h =
 
 module _ (text : Bytes) (table : List ℕ) (reals : List Float) (room : Settings) (s : State) (I : Inv text table reals room s) where
   abbrev here : Going
-  here = record { at = length (I .done); mode = gap; phase = I .phase; places = I .places; above = I .above }
+  here = record { at = length (I .done); scan = gap; phase = I .phase; places = I .places; above = I .above }
 
   at-phase : AtPhase room (statements (I .above)) (I .phase)
   at-phase = going-sound room (I .done) here (I .reach)
@@ -211,12 +211,12 @@ module _ (text : Bytes) (table : List ℕ) (reals : List Float) (room : Settings
   stores s′ x N = omega (arith, used-is text table reals room s I, room-at room d (N .phase) later, reals-room text table reals room s I, ap length (N .reals), length-append (openReals (I .phase)) (x ∷ []))
     where
       later : AtPhase room d (N .phase)
-      later = going-sound room (done text table reals room s len W) (record { at = suc (s .at + len); mode = gap; phase = N .phase; places = N .places; above = es }) (comes text table reals room s len W ∙ N .goes)
+      later = going-sound room (done text table reals room s len W) (record { at = suc (s .at + len); scan = gap; phase = N .phase; places = N .places; above = es }) (comes text table reals room s len W ∙ N .goes)
 
   -- a statement is complete
   module _ (s′ : State) (xs : List Float) (N : Done (suc (s .at + len)) es (I .phase) (reached text table reals room s len W) s′ xs) where
     abbrev g : Going
-    g = record { at = suc (s .at + len); mode = gap; phase = idle; places = N .places; above = N .entry ∷ es }
+    g = record { at = suc (s .at + len); scan = gap; phase = idle; places = N .places; above = N .entry ∷ es }
 
     came : run room initial (done text table reals room s len W) ≡ going g
     came = comes text table reals room s len W ∙ N .goes

@@ -38,10 +38,10 @@ written-told text records reals out a out′ e =
     record { says = ap written.reasonOf (e .says); numbers = ap written.valuesOf (e .says); bytes = e .output }
 
 -- the answer y of the code, which is the line x after the key held, told by its numbers
-pub line-told : (left : Bytes) (lr : List ℕ) (lx : List Float) (right : Bytes) (rr : List ℕ) (rx : List Float) (held : List ℕ) (p : Place) (x y : Next) (out : List ℕ) → x ≡ y → x ≡ nextLine (sceneRows left lr lx) (sceneRows right rr rx) p → p ≡ heldIn held → out ≡ line.valuesOf y → HostLine left lr lx right rr rx held (line.kindOf y) out
+pub line-told : (left : Bytes) (lr : List ℕ) (lx : List Float) (right : Bytes) (rr : List ℕ) (rx : List Float) (held : List ℕ) (p : Place) (x y : Next) (out : List ℕ) → x ≡ y → x ≡ nextLine (sceneRows left lr lx) (sceneRows right rr rx) p → p ≡ heldIn held → out ≡ line.valuesOf y → HostLine left lr lx right rr rx held (line.kindNumber y) out
 line-told left lr lx right rr rx held p x y out d e h v =
     let f = sym d ∙ e ∙ ap (nextLine (sceneRows left lr lx) (sceneRows right rr rx)) h in
-    record { says = ap line.kindOf f; numbers = v ∙ ap line.valuesOf f }
+    record { says = ap line.kindNumber f; numbers = v ∙ ap line.valuesOf f }
 
 module _ (a : List ℕ) where
   heldBy : Bool → Place

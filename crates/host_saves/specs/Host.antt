@@ -34,7 +34,7 @@ heldIn a = cond (eqb (getD a 0 0) 0) (on.Left (getD a 1 0)) (on.Right (getD a 1 
 
 -- 1 for a line and 0 for the end; the line's side, number, nth and state
 pub record HostLine (left : Bytes) (lr : List ℕ) (lx : List Float) (right : Bytes) (rr : List ℕ) (rx : List Float) (held : List ℕ) (r : ℕ) (out : List ℕ) : Type 0 where
-  pub says : r ≡ line.kindOf (nextLine (sceneRows left lr lx) (sceneRows right rr rx) (heldIn held))
+  pub says : r ≡ line.kindNumber (nextLine (sceneRows left lr lx) (sceneRows right rr rx) (heldIn held))
   pub numbers : out ≡ line.valuesOf (nextLine (sceneRows left lr lx) (sceneRows right rr rx) (heldIn held))
 
 -- ---- a scene written out: the reason, or 0; place and length; and the output

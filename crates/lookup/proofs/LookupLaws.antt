@@ -7,7 +7,7 @@ use Prim.Native.Nat.{ℕ, zero, suc, _+_, _-_, _*_, _≤_, _<_}
 use native.Mathlib.Nat.{add-zero}
 use native.Mathlib.Omega.{arith}
 use borrow.Author.Tests.{eq-eqb, ne-eqb, eqb-true, le-leb, leb-true}
-use lib.Dec.{eqb, leb}
+use lib.Dec.{eqb, leb, lit<}
 use lib.ListN.{length, length-append, getD}
 use lib.Seq.{ext-getD}
 use Rattle.laws.proofs.BoolLaws.{and-left, and-right, not-both}
@@ -23,6 +23,7 @@ use Rattle.scene.specs.Links.{gives, hits, latest, found}
 use Rattle.scene.specs.Reading.{statements, Entry, newline}
 use Rattle.scene.specs.Record.{recordOf, flat, filled, records, width, fieldIn, nameIn, recordIn}
 use Rattle.scene.specs.Types.{isSurface}
+use Rattle.table.proofs.QuestionLaws.{field-at}
 
 -- the table, of n numbers, of the entries es that have been read of a text
 module _ (text : Bytes) (es : List Entry) (n : ℕ) (h : AllRead (text ++ newline) es) where
@@ -56,19 +57,28 @@ module _ (text : Bytes) (es : List Entry) (n : ℕ) (h : AllRead (text ++ newlin
   pub search-latest : (w : Bytes) → latestIn text table w (length es) ≡ latest w (statements es)
   search-latest w = search-is w [] es refl
 
--- ---- one turn of the search for a name with no bytes
+-- ---- one turn of the search
+
+-- record N, a surface or not, which names `size` bytes from `place` on
+turn : (text : Bytes) (tb : List ℕ) (w : Bytes) (N : ℕ) → N ≢ 0 → (place size : ℕ) (surface : Bool) → place ≡ fieldIn tb N 3 → size ≡ fieldIn tb N 4 → surface ≡ isSurface (fieldIn tb N 0)
+    → latestIn text tb w N ≡ cond (leb (place + size) (length text) && eqb size (length w) && same w (part text place size) && not surface) N (latestIn text tb w (N - 1))
+unfolding latestIn hasName nameIn recordIn
+turn text tb w N h₀ place size surface hp hs hk =
+    let n : N ≡ suc (N - 1) = omega arith in
+    ap (latestIn text tb w) n
+    ∙ (λ i. cond (hasName text tb (sym n i) w) (sym n i) (latestIn text tb w (N - 1)))
+    ∙ (λ i. cond (leb (sym hp i + sym hs i) (length text) && eqb (sym hs i) (length w) && same w (part text (sym hp i) (sym hs i)) && not (sym hk i)) N (latestIn text tb w (N - 1)))
+
+-- ---- the search for a name with no bytes
 
 module _ (text : Bytes) (tb : List ℕ) (N : ℕ) (h₀ : 0 < N) (size place : ℕ) (surface : Bool) (hs : size ≡ fieldIn tb N 4) (hp : place ≡ fieldIn tb N 3) (hk : surface ≡ isSurface (fieldIn tb N 0)) where
   abbrev is-empty : Bool
   is-empty = eqb size 0 && leb place (length text) && not surface
 
   empty-turn : latestIn text tb [] N ≡ cond is-empty N (latestIn text tb [] (N - 1))
-  unfolding latestIn hasName nameIn recordIn same
+  unfolding same
   empty-turn =
-      let n : N ≡ suc (N - 1) = omega arith in
-      ap (latestIn text tb []) n
-      ∙ (λ i. cond (leb (fieldIn tb (sym n i) 3 + fieldIn tb (sym n i) 4) (length text) && eqb (fieldIn tb (sym n i) 4) 0 && same [] (part text (fieldIn tb (sym n i) 3) (fieldIn tb (sym n i) 4)) && not (isSurface (fieldIn tb (sym n i) 0))) (sym n i) (latestIn text tb [] (N - 1)))
-      ∙ (λ i. cond (leb (sym hp i + sym hs i) (length text) && eqb (sym hs i) 0 && same [] (part text (sym hp i) (sym hs i)) && not (sym hk i)) N (latestIn text tb [] (N - 1)))
+      turn text tb [] N (λ z. omega arith) place size surface hp hs hk
       ∙ ap (λ (b : Bool). cond (b && not surface) N (latestIn text tb [] (N - 1))) (go size)
     where
       go : (k : ℕ) → (leb (place + k) (length text) && eqb k 0 && same [] (part text place k)) ≡ (eqb k 0 && leb place (length text))
@@ -81,7 +91,7 @@ module _ (text : Bytes) (tb : List ℕ) (N : ℕ) (h₀ : 0 < N) (size place : �
   pub empty-miss : is-empty ≡ false → latestIn text tb [] N ≡ latestIn text tb [] (N - 1)
   empty-miss e = empty-turn ∙ ap (λ (b : Bool). cond b N (latestIn text tb [] (N - 1))) e
 
--- ---- one turn of the search
+-- ---- the search for any other
 
 -- a word with no bytes
 pub find-nothing : (text : Bytes) (tb : List ℕ) (w : Bytes) (n m : ℕ) → length w ≡ 0 → n ≡ m → latestIn text tb [] n ≡ latestIn text tb w m
@@ -111,16 +121,13 @@ module _ (text : Bytes) (tb : List ℕ) (w : Bytes) (fits : length w ≤ length 
   abbrev surface : Bool
   surface = isSurface (getD tb ((N - 1) * width + 0) 0)
 
-  turn : latestIn text tb w N ≡ cond (stands && same w (part text place size) && not surface) N (latestIn text tb w (N - 1))
-  unfolding latestIn hasName nameIn recordIn fieldIn stands
-  turn =
-      let n : N ≡ suc (N - 1) = omega arith in
-      ap (latestIn text tb w) n
-      ∙ (λ i. cond (leb (sym hp i + sym hs i) (length text) && eqb (sym hs i) (length w) && same w (part text (sym hp i) (sym hs i)) && not surface) (sym n i) (latestIn text tb w (N - 1)))
+  here : latestIn text tb w N ≡ cond (stands && same w (part text place size) && not surface) N (latestIn text tb w (N - 1))
+  unfolding stands
+  here = turn text tb w N h₀ place size surface (hp ∙ field-at tb 3 (lit< tt) N h₀) (hs ∙ field-at tb 4 (lit< tt) N h₀) (ap isSurface (field-at tb 0 (lit< tt) N h₀))
 
   one-less : (place + size ≤ length text → size ≡ length w → w ≡ part text place size → ⊥) → latestIn text tb w N ≡ latestIn text tb w (N - 1)
   unfolding stands
-  one-less h = turn ∙ ap (λ (b : Bool). cond (b && not surface) N (latestIn text tb w (N - 1)))
+  one-less h = here ∙ ap (λ (b : Bool). cond (b && not surface) N (latestIn text tb w (N - 1)))
       (not-both stands (same w (part text place size)) (λ a b. h (leb-true (place + size) (length text) (and-left (leb (place + size) (length text)) (eqb size (length w)) a)) (eqb-true size (length w) (and-right (leb (place + size) (length text)) (eqb size (length w)) a)) (same-eq w (part text place size) b)))
 
   pub find-sized : (size ≡ length w → ⊥) → latestIn text tb w N ≡ latestIn text tb w (N - 1)
@@ -145,10 +152,10 @@ module _ (text : Bytes) (tb : List ℕ) (w : Bytes) (fits : length w ≤ length 
           rw (le-leb (place + size) (length text) f, eq-eqb size (length w) q) (ap (same w) (sym e) ∙ same-refl w)
 
       pub find-hit : surface ≡ false → latestIn text tb w N ≡ N
-      find-hit k = turn ∙ (λ i. cond (named i && not (k i)) N (latestIn text tb w (N - 1)))
+      find-hit k = here ∙ (λ i. cond (named i && not (k i)) N (latestIn text tb w (N - 1)))
 
       pub find-surface : surface ≡ true → latestIn text tb w N ≡ latestIn text tb w (N - 1)
-      find-surface k = turn ∙ (λ i. cond (named i && not (k i)) N (latestIn text tb w (N - 1)))
+      find-surface k = here ∙ (λ i. cond (named i && not (k i)) N (latestIn text tb w (N - 1)))
 
 pub find-none : (text : Bytes) (tb : List ℕ) (w : Bytes) → latestIn text tb w 0 ≡ 0
 unfolding latestIn

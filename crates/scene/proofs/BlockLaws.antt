@@ -76,7 +76,7 @@ piece r p a P A X e f x =
 pub join : (r : Settings) (a b : Bytes) (A B : List Statement) → parse r gap idle a ≡ pass gap idle A → parse r gap idle b ≡ pass gap idle B → parse r gap idle (a ++ b) ≡ pass gap idle (B ++ A)
 join r a b A B e f = parse-append r gap idle a b ∙ ap (λ (s : Step). chain s (λ m ph. parse r m ph b)) e ∙ ap (onTop A) f
 
-idle-parse : (r : Settings) (t : Bytes) (g : Going) → run r initial t ≡ going g → g .phase ≡ idle → gap ≡ g .mode → parse r gap idle t ≡ pass gap idle (statements (g .above))
+idle-parse : (r : Settings) (t : Bytes) (g : Going) → run r initial t ≡ going g → g .phase ≡ idle → gap ≡ g .scan → parse r gap idle t ≡ pass gap idle (statements (g .above))
 idle-parse r t g e p m = going-parse r t g e ∙ (λ i. pass (sym m i) (p i) (statements (g .above)))
 
 -- the text's four parts, read
@@ -162,13 +162,13 @@ module _ (r : Settings) (p a b q : Bytes) (es : List Entry) (e : read r (p ++ a 
   four = sym (end .3) ∙ since-q .above ∙ ap {B = List Entry} (λ (x : List Entry). eQ ++ x) (since-b .above ∙ ap {B = List Entry} (λ (x : List Entry). eB ++ x) (since-a .above))
 
   read-p : parse r gap idle p ≡ pass gap idle (statements eP)
-  read-p = idle-parse r p (edge-p .state) (edge-p .here) (edge-p .phase) (edge-p .mode)
+  read-p = idle-parse r p (edge-p .state) (edge-p .here) (edge-p .phase) (edge-p .scan)
 
   read-pa : parse r gap idle (p ++ a) ≡ pass gap idle (statements (edge-a .state .above))
-  read-pa = idle-parse r (p ++ a) (edge-a .state) (edge-a .here) (edge-a .phase) (edge-a .mode)
+  read-pa = idle-parse r (p ++ a) (edge-a .state) (edge-a .here) (edge-a .phase) (edge-a .scan)
 
   read-pab : parse r gap idle (p ++ a ++ b) ≡ pass gap idle (statements (edge-b .state .above))
-  read-pab = idle-parse r (p ++ a ++ b) (edge-b .state) (edge-b .here) (edge-b .phase) (edge-b .mode)
+  read-pab = idle-parse r (p ++ a ++ b) (edge-b .state) (edge-b .here) (edge-b .phase) (edge-b .scan)
 
   read-all : parse r gap idle (p ++ a ++ b ++ (q ++ newline)) ≡ pass gap idle (statements es)
   read-all = subst (λ (t : Bytes). parse r gap idle t ≡ pass gap idle (statements es)) t₃ ((accept-forth r (p ++ a ++ b ++ q) es e) .1)

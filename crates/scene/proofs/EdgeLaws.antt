@@ -15,7 +15,7 @@ use Rattle.scene.proofs.AcceptLaws.{Gap, lines-gap, going-parse}
 use Rattle.scene.proofs.SyntaxLaws.{parse}
 use Rattle.scene.specs.Block.{CutsNone, EndsLine}
 use Rattle.scene.specs.Phase.{Part, atType, atName, atStringCount, atString, atIntegerCount, atRealCount, atReal, atAliasName, atTarget, Phase, idle, busy, Turn, fault, onto, ends, turn, Outcome, refuse, into, done, outcome, word, unlessFault}
-use Rattle.scene.specs.Reading.{Mode, gap, comment, within, Move, keep, first, command, ended, begins, move, test, Places, notePart, note, Entry, Going, State, stopped, going, statements, settle, advance, feed, run, initial}
+use Rattle.scene.specs.Reading.{Scan, gap, comment, within, Move, keep, first, command, ended, begins, move, test, Places, notePart, note, Entry, Going, State, stopped, going, statements, settle, advance, feed, run, initial}
 use Rattle.scene.specs.declared.Settings.{Settings}
 
 -- ---- runs
@@ -37,20 +37,20 @@ run-first r X a b g e = go (run r X a) refl
     go (stopped n p) q = let z : stopped n p ≡ going g = sym (run-stopped r n p b) ∙ ap (λ (Y : State). run r Y b) (sym q) ∙ sym (run-append r X a b) ∙ e in let w : _≡_ {A = ℕ} 0 1 = cc in absurd (omega arith)
     go (going k) q = (k, q, ap (λ (Y : State). run r Y b) (sym q) ∙ sym (run-append r X a b) ∙ e)
 
--- ---- moves that a mode allows
+-- ---- moves that a scan allows
 
-abbrev pub IsWithin : Mode → Type 0
+abbrev pub IsWithin : Scan → Type 0
 IsWithin gap = ⊥
 IsWithin comment = ⊥
 IsWithin (within w) = Unit {0}
 
-abbrev pub OkMode : Mode → Mode → Type 0
-OkMode m gap = Unit {0}
-OkMode m comment = Unit {0}
-OkMode m (within w) = IsWithin m
+abbrev pub OkScan : Scan → Scan → Type 0
+OkScan m gap = Unit {0}
+OkScan m comment = Unit {0}
+OkScan m (within w) = IsWithin m
 
-abbrev pub OkMove : Mode → Move → Type 0
-OkMove m (keep m′) = OkMode m m′
+abbrev pub OkMove : Scan → Move → Type 0
+OkMove m (keep m′) = OkScan m m′
 OkMove m (first b) = Unit {0}
 OkMove m command = Unit {0}
 OkMove m (ended w) = IsWithin m
@@ -59,18 +59,18 @@ begins-ok : (ph : Phase) (b : ℕ) → OkMove gap (begins ph b)
 begins-ok idle b = cond-elim (OkMove gap) (eqb b 35) tt (cond-elim (OkMove gap) (eqb b 33) tt tt)
 begins-ok (busy m p) b = tt
 
-pub move-ok : (m : Mode) (ph : Phase) (b : ℕ) → OkMove m (move m ph b)
+pub move-ok : (m : Scan) (ph : Phase) (b : ℕ) → OkMove m (move m ph b)
 move-ok gap ph b = cond-elim (OkMove gap) (isBlank b) tt (begins-ok ph b)
 move-ok comment ph b = cond-elim (OkMove comment) (eqb b 10) tt tt
 move-ok (within w) ph b = cond-elim (OkMove (within w)) (isBlank b) tt tt
 
 -- a predicate that every allowed move keeps holds along a run
-module _ (r : Settings) (I : State → Type 0) (dead : (n p : ℕ) → I (stopped n p)) (one : (g : Going) (mv : Move) → OkMove (g .mode) mv → I (going g) → I (advance r g mv)) where
+module _ (r : Settings) (I : State → Type 0) (dead : (n p : ℕ) → I (stopped n p)) (one : (g : Going) (mv : Move) → OkMove (g .scan) mv → I (going g) → I (advance r g mv)) where
   pub along : (t : Bytes) (X : State) → I X → I (run r X t)
   unfolding run
   along [] X h = h
   along (b ∷ t) (stopped n p) h = along t (stopped n p) h
-  along (b ∷ t) (going g) h = along t (advance r g (move (g .mode) (g .phase) b)) (one g (move (g .mode) (g .phase) b) (move-ok (g .mode) (g .phase) b) h)
+  along (b ∷ t) (going g) h = along t (advance r g (move (g .scan) (g .phase) b)) (one g (move (g .scan) (g .phase) b) (move-ok (g .scan) (g .phase) b) h)
 
 -- ---- the place
 
@@ -100,7 +100,7 @@ run-far r (b ∷ t) (stopped n p) k h = run-far-refused t
     run-far-refused t = subst (Far (k + length (b ∷ t))) (sym (run-stopped r n p t)) tt
 run-far r (b ∷ t) (going g) k h =
     let e : suc k + length t ≡ k + suc (length t) = omega arith in
-    subst (λ n. Far n (run r (advance r g (move (g .mode) (g .phase) b)) t)) e (run-far r t (advance r g (move (g .mode) (g .phase) b)) (suc k) (subst (λ n. Far (suc n) (advance r g (move (g .mode) (g .phase) b))) h (advance-far r g (move (g .mode) (g .phase) b))))
+    subst (λ n. Far n (run r (advance r g (move (g .scan) (g .phase) b)) t)) e (run-far r t (advance r g (move (g .scan) (g .phase) b)) (suc k) (subst (λ n. Far (suc n) (advance r g (move (g .scan) (g .phase) b))) h (advance-far r g (move (g .scan) (g .phase) b))))
 
 -- ---- a word that begins in a statement is noted, and leaves the statement's own start
 
@@ -129,7 +129,7 @@ range-up lo hi (e ∷ es) h = (h .0, omega arith, range-up lo hi es (h .2))
 abbrev pub Bounds : ℕ → ℕ → ℕ → Type 0
 Bounds lo hi st = (lo ≤ st) × (st < hi)
 
-abbrev pub Began : ℕ → ℕ → ℕ → Phase → Mode → Type 0
+abbrev pub Began : ℕ → ℕ → ℕ → Phase → Scan → Type 0
 Began lo hi st (busy m p) md = Bounds lo hi st
 Began lo hi st idle gap = Unit {0}
 Began lo hi st idle comment = Unit {0}
@@ -139,26 +139,26 @@ pub record Since (lo : ℕ) (d : List Entry) (g : Going) : Type 0 where
   pub new : List Entry
   pub above : g .above ≡ new ++ d
   pub range : Range lo (g .at) new
-  pub began : Began lo (g .at) (g .places .start) (g .phase) (g .mode)
+  pub began : Began lo (g .at) (g .places .start) (g .phase) (g .scan)
   pub low : lo ≤ g .at
 
 abbrev pub SinceS : ℕ → List Entry → State → Type 0
 SinceS lo d (stopped n p) = Unit {0}
 SinceS lo d (going g) = Since lo d g
 
-in-word : (lo hi st : ℕ) (ph : Phase) (m : Mode) → IsWithin m → Began lo hi st ph m → Bounds lo hi st
+in-word : (lo hi st : ℕ) (ph : Phase) (m : Scan) → IsWithin m → Began lo hi st ph m → Bounds lo hi st
 in-word lo hi st (busy md p) m w h = h
 in-word lo hi st idle gap w h = absurd w
 in-word lo hi st idle comment w h = absurd w
 in-word lo hi st idle (within x) w h = h
 
-began-keep : (lo hi st : ℕ) (ph : Phase) (m m′ : Mode) → OkMode m m′ → Began lo hi st ph m → Began lo (suc hi) st ph m′
+began-keep : (lo hi st : ℕ) (ph : Phase) (m m′ : Scan) → OkScan m m′ → Began lo hi st ph m → Began lo (suc hi) st ph m′
 began-keep lo hi st (busy md p) m m′ o h = (h .0, omega arith)
 began-keep lo hi st idle m gap o h = tt
 began-keep lo hi st idle m comment o h = tt
 began-keep lo hi st idle m (within w) o h = let b = in-word lo hi st idle m o h in (b .0, omega arith)
 
-began-first : (lo hi : ℕ) (k : Places) (ph : Phase) (m : Mode) (w : Bytes) → lo ≤ hi → Began lo hi (k .start) ph m → Began lo (suc hi) ((note ph hi k) .start) ph (within w)
+began-first : (lo hi : ℕ) (k : Places) (ph : Phase) (m : Scan) (w : Bytes) → lo ≤ hi → Began lo hi (k .start) ph m → Began lo (suc hi) ((note ph hi k) .start) ph (within w)
 began-first lo hi k idle m w l h = (l, omega arith)
 began-first lo hi k (busy md p) m w l h = subst (Bounds lo (suc hi)) (sym ((part-noted p hi k .1))) (h .0, omega arith)
 
@@ -166,19 +166,19 @@ began-into : (lo hi st : ℕ) (ph : Phase) → Bounds lo hi st → Began lo (suc
 began-into lo hi st idle h = tt
 began-into lo hi st (busy m p) h = (h .0, omega arith)
 
-settle-since : (lo : ℕ) (d : List Entry) (g : Going) → Since lo d g → IsWithin (g .mode) → (a : Outcome) (n : ℕ) → SinceS lo d (settle g a n)
+settle-since : (lo : ℕ) (d : List Entry) (g : Going) → Since lo d g → IsWithin (g .scan) → (a : Outcome) (n : ℕ) → SinceS lo d (settle g a n)
 settle-since lo d g h w (refuse c) n = tt
-settle-since lo d g h w (into ph) zero = record { new = h .new; above = h .above; range = range-up lo (g .at) (h .new) (h .range); began = began-into lo (g .at) (g .places .start) ph (in-word lo (g .at) (g .places .start) (g .phase) (g .mode) w (h .began)); low = (let l = h .low in omega arith) }
+settle-since lo d g h w (into ph) zero = record { new = h .new; above = h .above; range = range-up lo (g .at) (h .new) (h .range); began = began-into lo (g .at) (g .places .start) ph (in-word lo (g .at) (g .places .start) (g .phase) (g .scan) w (h .began)); low = (let l = h .low in omega arith) }
 settle-since lo d g h w (into ph) (suc n) = tt
 settle-since lo d g h w (done s) zero =
-    let b = in-word lo (g .at) (g .places .start) (g .phase) (g .mode) w (h .began) in
+    let b = in-word lo (g .at) (g .places .start) (g .phase) (g .scan) w (h .began) in
     let l = h .low in
     record { new = record { statement = s; places = g .places; end = g .at } ∷ h .new; above = ap {B = List Entry} (λ (x : List Entry). record { statement = s; places = g .places; end = g .at } ∷ x) (h .above); range = (b .0, omega arith, range-up lo (g .at) (h .new) (h .range)); began = tt; low = omega arith }
 settle-since lo d g h w (done s) (suc n) = tt
 
-advance-since : (lo : ℕ) (d : List Entry) (r : Settings) (g : Going) (mv : Move) → OkMove (g .mode) mv → Since lo d g → SinceS lo d (advance r g mv)
-advance-since lo d r g (keep m) o h = record { new = h .new; above = h .above; range = range-up lo (g .at) (h .new) (h .range); began = began-keep lo (g .at) (g .places .start) (g .phase) (g .mode) m o (h .began); low = (let l = h .low in omega arith) }
-advance-since lo d r g (first b) o h = record { new = h .new; above = h .above; range = range-up lo (g .at) (h .new) (h .range); began = began-first lo (g .at) (g .places) (g .phase) (g .mode) (b ∷ []) (h .low) (h .began); low = (let l = h .low in omega arith) }
+advance-since : (lo : ℕ) (d : List Entry) (r : Settings) (g : Going) (mv : Move) → OkMove (g .scan) mv → Since lo d g → SinceS lo d (advance r g mv)
+advance-since lo d r g (keep m) o h = record { new = h .new; above = h .above; range = range-up lo (g .at) (h .new) (h .range); began = began-keep lo (g .at) (g .places .start) (g .phase) (g .scan) m o (h .began); low = (let l = h .low in omega arith) }
+advance-since lo d r g (first b) o h = record { new = h .new; above = h .above; range = range-up lo (g .at) (h .new) (h .range); began = began-first lo (g .at) (g .places) (g .phase) (g .scan) (b ∷ []) (h .low) (h .began); low = (let l = h .low in omega arith) }
 advance-since lo d r g command o h = tt
 advance-since lo d r g (ended w) o h = settle-since lo d g h o (word r (g .phase) w) (test r (statements (g .above)) (g .phase) w)
 
@@ -208,7 +208,7 @@ record Pending (k : ℕ) (g : Going) : Type 0 where
   phase : IsOpen (g .phase)
   start : g .places .start < k
   low : k ≤ g .at
-  word : IsWithin (g .mode) → k < g .at
+  word : IsWithin (g .scan) → k < g .at
 
 abbrev PendingS : ℕ → State → Type 0
 PendingS k (stopped n p) = Unit {0}
@@ -233,7 +233,7 @@ note-start : (ph : Phase) (n : ℕ) (k : Places) → IsOpen ph → (note ph n k)
 note-start idle n k h = absurd h
 note-start (busy m p) n k h = (part-noted p n k .1)
 
-settle-pending : (k : ℕ) (g : Going) → IsWithin (g .mode) → Cuts k (g .above) ⊎ Pending k g → (a : Outcome) → (IsOpen (g .phase) → StillOpen a) → (n : ℕ) → PendingS k (settle g a n)
+settle-pending : (k : ℕ) (g : Going) → IsWithin (g .scan) → Cuts k (g .above) ⊎ Pending k g → (a : Outcome) → (IsOpen (g .phase) → StillOpen a) → (n : ℕ) → PendingS k (settle g a n)
 settle-pending k g w h (refuse c) o n = tt
 settle-pending k g w h (into ph) o (suc n) = tt
 settle-pending k g w h (done s) o (suc n) = tt
@@ -242,7 +242,7 @@ settle-pending k g w (inr p) (into ph) o zero = let l = p .low in inr (record { 
 settle-pending k g w (inl c) (done s) o zero = inl (inr c)
 settle-pending k g w (inr p) (done s) o zero = inl (inl (p .start, p .word w))
 
-advance-pending : (k : ℕ) (r : Settings) (g : Going) (mv : Move) → OkMove (g .mode) mv → Cuts k (g .above) ⊎ Pending k g → PendingS k (advance r g mv)
+advance-pending : (k : ℕ) (r : Settings) (g : Going) (mv : Move) → OkMove (g .scan) mv → Cuts k (g .above) ⊎ Pending k g → PendingS k (advance r g mv)
 advance-pending k r g (keep m) o (inl c) = inl c
 advance-pending k r g (keep m) o (inr p) = let l = p .low in inr (record { phase = p .phase; start = p .start; low = omega arith; word = λ z. omega arith })
 advance-pending k r g (first b) o (inl c) = inl c
@@ -263,12 +263,12 @@ pub record Edge (r : Settings) (p rest : Bytes) (g : Going) : Type 0 where
   pub here : run r initial p ≡ going state
   pub on : run r (going state) rest ≡ going g
   pub phase : state .phase ≡ idle
-  pub mode : gap ≡ state .mode
+  pub scan : gap ≡ state .scan
   pub at : state .at ≡ length p
 
 pub edge : (r : Settings) (p rest : Bytes) (g : Going) → run r initial (p ++ rest) ≡ going g → g .phase ≡ idle → LineStart p → CutsNone (length p) (g .above) → Edge r p rest g
 unfolding run parse
-edge r p rest g e f l wh = record { state = k; here = i .1; on = i .2; phase = closed (k .phase) refl; mode = between l; at = far }
+edge r p rest g e f l wh = record { state = k; here = i .1; on = i .2; phase = closed (k .phase) refl; scan = between l; at = far }
   where
     i : (k : Going) × (run r initial p ≡ going k) × (run r (going k) rest ≡ going g)
     i = run-first r initial p rest g e
@@ -279,7 +279,7 @@ edge r p rest g e f l wh = record { state = k; here = i .1; on = i .2; phase = c
     far : k .at ≡ length p
     far = subst (Far (length p)) (i .1) (subst (λ n. Far n (run r initial p)) (zero-add (length p)) (run-far r p initial 0 refl))
 
-    between : LineStart p → gap ≡ k .mode
+    between : LineStart p → gap ≡ k .scan
     between (inl z) = subst Gap (going-parse r p k (i .1)) (subst (λ (t : Bytes). Gap (parse r gap idle t)) (sym z) refl)
     between (inr (x, z)) = subst Gap (going-parse r p k (i .1)) (subst (λ (t : Bytes). Gap (parse r gap idle t)) (sym z) (lines-gap r x gap idle))
 
@@ -291,7 +291,7 @@ edge r p rest g e f l wh = record { state = k; here = i .1; on = i .2; phase = c
     closed (busy m part) q = absurd (done (subst (PendingS (length p)) (i .2) (run-pending r (length p) rest (going k) (inr pend))))
       where
         b : Bounds 0 (k .at) (k .places .start)
-        b = subst (λ (ph : Phase). Began 0 (k .at) (k .places .start) ph (k .mode)) q (since .began)
+        b = subst (λ (ph : Phase). Began 0 (k .at) (k .places .start) ph (k .scan)) q (since .began)
 
         pend : Pending (length p) k
         pend = record { phase = subst IsOpen (sym q) tt; start = omega (arith, b .1, far); low = omega (arith, far); word = λ w. absurd (subst IsWithin (sym (between l)) w) }
@@ -308,7 +308,7 @@ since-edge r p a rest g k e q =
       new = [];
       above = refl;
       range = tt;
-      began = subst₂ (λ (ph : Phase) (m : Mode). Began (length p) (e .state .at) (e .state .places .start) ph m) (sym (e .phase)) (e .mode) tt;
+      began = subst₂ (λ (ph : Phase) (m : Scan). Began (length p) (e .state .at) (e .state .places .start) ph m) (sym (e .phase)) (e .scan) tt;
       low = omega (arith, e .at);
     }))
 

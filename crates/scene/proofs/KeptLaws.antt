@@ -10,7 +10,7 @@ use Rattle.laws.specs.Bytes.{Bytes}
 use Rattle.lexer.specs.Class.{isBlank}
 use Rattle.lexer.specs.Word.{wordFault}
 use Rattle.scene.specs.Phase.{Part, atType, Phase, idle, busy, Turn, fault, onto, ends, turn, Outcome, refuse, into, done, outcome, taken, word, unlessFault}
-use Rattle.scene.specs.Reading.{Mode, gap, comment, within, keep, first, command, ended, begins, move, test, Places, notePart, note, Entry, Going, State, stopped, going, statements, settle, advance, feed, run, initial}
+use Rattle.scene.specs.Reading.{Scan, gap, comment, within, keep, first, command, ended, begins, move, test, Places, notePart, note, Entry, Going, State, stopped, going, statements, settle, advance, feed, run, initial}
 use Rattle.scene.specs.declared.Settings.{Settings}
 use Rattle.scene.specs.Statement.{Body}
 
@@ -55,19 +55,19 @@ module _ (Gap : Bytes → Places → Part → Type 0) (Within : Bytes → Places
     pub turned : (c : Bytes) (b : ℕ) (k : Places) (w : Bytes) (p : Part) → isBlank b ≡ true → Within c k w p → TurnHolds Gap Read (more c b) k (turn r p w)
     pub read : (c : Bytes) (b : ℕ) (k : Places) (n : Bytes) (x : Body) → Read c k n x → Read (more c b) k n x
 
-  abbrev ModeHolds : Bytes → Places → Mode → Part → Type 0
-  ModeHolds c k gap p = Gap c k p
-  ModeHolds c k comment p = ⊥
-  ModeHolds c k (within w) p = Within c k w p
+  abbrev ScanHolds : Bytes → Places → Scan → Part → Type 0
+  ScanHolds c k gap p = Gap c k p
+  ScanHolds c k comment p = ⊥
+  ScanHolds c k (within w) p = Within c k w p
 
-  abbrev PhaseHolds : Bytes → Places → Mode → Phase → Type 0
+  abbrev PhaseHolds : Bytes → Places → Scan → Phase → Type 0
   PhaseHolds c k m idle = Unit {0}
-  PhaseHolds c k m (busy q p) = ModeHolds c k m p
+  PhaseHolds c k m (busy q p) = ScanHolds c k m p
 
   record Holds (c : Bytes) (g : Going) : Type 0 where
     at : length c ≡ g .at
     above : Each Read c (g .above)
-    phase : PhaseHolds c (g .places) (g .mode) (g .phase)
+    phase : PhaseHolds c (g .places) (g .scan) (g .phase)
 
   abbrev HoldsS : Bytes → State → Type 0
   HoldsS c (stopped n p) = Unit {0}
@@ -99,11 +99,11 @@ module _ (Gap : Bytes → Places → Part → Type 0) (Within : Bytes → Places
 
       -- a byte
       module _ (n : ℕ) (k : Places) (es : List Entry) (l : length c ≡ n) (al : Each Read c es) where
-        abbrev here : Mode → Phase → Going
-        here m ph = record { at = n; mode = m; phase = ph; places = k; above = es }
+        abbrev here : Scan → Phase → Going
+        here m ph = record { at = n; scan = m; phase = ph; places = k; above = es }
 
         -- the next place, with the same statements above
-        on : (m : Mode) (ph : Phase) (k′ : Places) → PhaseHolds (more c b) k′ m ph → Holds (more c b) (record { at = suc n; mode = m; phase = ph; places = k′; above = es })
+        on : (m : Scan) (ph : Phase) (k′ : Places) → PhaseHolds (more c b) k′ m ph → Holds (more c b) (record { at = suc n; scan = m; phase = ph; places = k′; above = es })
         on m ph k′ h = record { at = more-length c b ∙ ap suc l; above = each-more Read (kept .read) c b es al; phase = h }
 
         settle-holds : (w : Bytes) (ph : Phase) (a : Outcome) (t : ℕ) → OutcomeHolds k a → HoldsS (more c b) (settle (here (within w) ph) a t)
@@ -132,7 +132,7 @@ module _ (Gap : Bytes → Places → Part → Type 0) (Within : Bytes → Places
         within-holds w idle h false e = on (within (w ++ b ∷ [])) idle k tt
         within-holds w (busy m p) h false e = on (within (w ++ b ∷ [])) (busy m p) k (kept .longer c b k w p e h)
 
-        feed-holds : (m : Mode) (ph : Phase) → PhaseHolds c k m ph → HoldsS (more c b) (advance r (here m ph) (move m ph b))
+        feed-holds : (m : Scan) (ph : Phase) → PhaseHolds c k m ph → HoldsS (more c b) (advance r (here m ph) (move m ph b))
         feed-holds gap ph h = gap-holds ph h (isBlank b) refl
         feed-holds (within w) ph h = within-holds w ph h (isBlank b) refl
         feed-holds comment (busy m p) h = absurd h
@@ -146,7 +146,7 @@ module _ (Gap : Bytes → Places → Part → Type 0) (Within : Bytes → Places
     unfolding run
     run-holds [] c X h = subst (λ (z : Bytes). HoldsS z X) (sym (append-nil c)) h
     run-holds (b ∷ t) c (stopped n p) h = subst (λ (z : Bytes). HoldsS z (run r (stopped n p) t)) (snoc c b t) (run-holds t (more c b) (stopped n p) tt)
-    run-holds (b ∷ t) c (going g) h = subst (λ (z : Bytes). HoldsS z (run r (feed r (going g) b) t)) (snoc c b t) (run-holds t (more c b) (feed r (going g) b) (feed-holds c b (g .at) (g .places) (g .above) (h .at) (h .above) (g .mode) (g .phase) (h .phase)))
+    run-holds (b ∷ t) c (going g) h = subst (λ (z : Bytes). HoldsS z (run r (feed r (going g) b) t)) (snoc c b t) (run-holds t (more c b) (feed r (going g) b) (feed-holds c b (g .at) (g .places) (g .above) (h .at) (h .above) (g .scan) (g .phase) (h .phase)))
 
     pub run-read : (t : Bytes) (g : Going) → run r initial t ≡ going g → Each Read t (g .above)
     run-read t g e = (subst (HoldsS t) e (run-holds t [] initial (record { at = refl; above = tt; phase = tt }))) .above

@@ -171,7 +171,7 @@ settle-meant g (into ph) (suc t) h k = tt
 settle-meant g (done s) zero h k = (tt, (k, h .1))
 settle-meant g (done s) (suc t) h k = tt
 
-advance-meant : (r : Settings) (g : Going) (mv : Move) → OkMove (g .mode) mv → InState (going g) → InState (advance r g mv)
+advance-meant : (r : Settings) (g : Going) (mv : Move) → OkMove (g .scan) mv → InState (going g) → InState (advance r g mv)
 advance-meant r g (keep m) o h = h
 advance-meant r g (first b) o h = h
 advance-meant r g command o h = tt

@@ -9,9 +9,9 @@ use native.Mathlib.Omega.{arith}
 use lib.Dec.{leb}
 use lib.ListN.{length, length-append}
 use Rattle.laws.specs.Bytes.{Bytes}
-use Rattle.scene.proofs.EdgeLaws.{part-noted, IsWithin, OkMode, OkMove, move-ok}
+use Rattle.scene.proofs.EdgeLaws.{part-noted, IsWithin, OkScan, OkMove, move-ok}
 use Rattle.scene.specs.Phase.{Phase, idle, busy, Outcome, refuse, into, done, word}
-use Rattle.scene.specs.Reading.{Mode, gap, comment, within, Move, keep, first, command, ended, move, test, Places, note, Entry, Going, State, stopped, going, statements, settle, advance, feed, run, initial, Reading, refused, accepted, endIn, finish, newline, read}
+use Rattle.scene.specs.Reading.{Scan, gap, comment, within, Move, keep, first, command, ended, move, test, Places, note, Entry, Going, State, stopped, going, statements, settle, advance, feed, run, initial, Reading, refused, accepted, endIn, finish, newline, read}
 use Rattle.scene.specs.declared.Settings.{Settings}
 
 -- every text is accepted or refused
@@ -30,9 +30,9 @@ word-noted (busy m p) n k = part-noted p n k .0
 
 abbrev Behind : ℕ → State → Type 0
 Behind k (stopped n p) = p < k
-Behind k (going g) = (g .at ≡ k) × (IsWithin (g .mode) → g .places .word < k)
+Behind k (going g) = (g .at ≡ k) × (IsWithin (g .scan) → g .places .word < k)
 
-within-keep : (m m′ : Mode) (w k : ℕ) → OkMode m m′ → (IsWithin m → w < k) → IsWithin m′ → w < suc k
+within-keep : (m m′ : Scan) (w k : ℕ) → OkScan m m′ → (IsWithin m → w < k) → IsWithin m′ → w < suc k
 within-keep m gap w k o h i = absurd i
 within-keep m comment w k o h i = absurd i
 within-keep m (within x) w k o h i = let l = h o in omega arith
@@ -44,15 +44,15 @@ settle-behind g (into ph) (suc t) k e w = omega arith
 settle-behind g (done s) zero k e w = (ap suc e, λ i. absurd i)
 settle-behind g (done s) (suc t) k e w = omega arith
 
-advance-behind : (r : Settings) (g : Going) (mv : Move) (k : ℕ) → OkMove (g .mode) mv → Behind k (going g) → Behind (suc k) (advance r g mv)
-advance-behind r g (keep m) k o h = (ap suc (h .0), within-keep (g .mode) m (g .places .word) k o (h .1))
+advance-behind : (r : Settings) (g : Going) (mv : Move) (k : ℕ) → OkMove (g .scan) mv → Behind k (going g) → Behind (suc k) (advance r g mv)
+advance-behind r g (keep m) k o h = (ap suc (h .0), within-keep (g .scan) m (g .places .word) k o (h .1))
 advance-behind r g (first b) k o h = (ap suc (h .0), λ i. omega (arith, word-noted (g .phase) (g .at) (g .places), h .0))
 advance-behind r g command k o h = omega (arith, h .0)
 advance-behind r g (ended w) k o h = settle-behind g (word r (g .phase) w) (test r (statements (g .above)) (g .phase) w) k (h .0) (h .1 o)
 
 feed-behind : (r : Settings) (X : State) (b k : ℕ) → Behind k X → Behind (suc k) (feed r X b)
 feed-behind r (stopped n p) b k h = omega arith
-feed-behind r (going g) b k h = advance-behind r g (move (g .mode) (g .phase) b) k (move-ok (g .mode) (g .phase) b) h
+feed-behind r (going g) b k h = advance-behind r g (move (g .scan) (g .phase) b) k (move-ok (g .scan) (g .phase) b) h
 
 run-behind : (r : Settings) (t : Bytes) (X : State) (k : ℕ) → Behind k X → Behind (k + length t) (run r X t)
 unfolding run

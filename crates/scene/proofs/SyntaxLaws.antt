@@ -17,7 +17,7 @@ use Rattle.numeral.specs.Numeral.{numeralOf, Answer, value, refusal}
 use Rattle.scene.specs.HouseRules.{breach}
 use Rattle.scene.specs.Links.{definition, realsUsed}
 use Rattle.scene.specs.Phase.{Part, atType, atName, atStringCount, atString, atIntegerCount, atRealCount, atReal, atAliasName, atTarget, Phase, idle, busy, Turn, fault, onto, ends, typed, strings, stringCount, integerCount, reals, realCount, real, turn, Outcome, refuse, into, done, outcome, taken, word, unlessFault}
-use Rattle.scene.specs.Reading.{Mode, gap, within, Move, keep, first, command, ended, move, targetTest, roomTest, partTest, test, Going, State, stopped, going, statements, settle, advance, run}
+use Rattle.scene.specs.Reading.{Scan, gap, within, Move, keep, first, command, ended, move, targetTest, roomTest, partTest, test, Going, State, stopped, going, statements, settle, advance, run}
 use Rattle.scene.specs.declared.Settings.{Settings}
 use Rattle.scene.specs.Types.{typeNumber, stringsAllowed, realsAllowed}
 use Rattle.scene.specs.Statement.{void, Literal, literal, numbers, Body, primitive, alias, Statement}
@@ -26,7 +26,7 @@ use Rattle.scene.specs.Statement.{void, Literal, literal, numbers, Body,
 
 pub data Step : Type 0 where
   halt : Step
-  pass : Mode → Phase → List Statement → Step
+  pass : Scan → Phase → List Statement → Step
 
 abbrev pub after : Outcome → Step
 after (refuse n) = halt
@@ -43,11 +43,11 @@ abbrev pub onTop : List Statement → Step → Step
 onTop l halt = halt
 onTop l (pass m ph k) = pass m ph (k ++ l)
 
-abbrev pub chain : Step → (Mode → Phase → Step) → Step
+abbrev pub chain : Step → (Scan → Phase → Step) → Step
 chain halt k = halt
 chain (pass m ph l) k = onTop l (k m ph)
 
-unfoldable pub parse : Settings → Mode → Phase → Bytes → Step
+unfoldable pub parse : Settings → Scan → Phase → Bytes → Step
 parse r m ph [] = pass m ph []
 parse r m ph (b ∷ t) = chain (step r ph (move m ph b)) (λ m′ ph′. parse r m′ ph′ t)
 
@@ -57,7 +57,7 @@ pub onTop-nil : (s : Step) → onTop [] s ≡ s
 onTop-nil halt = refl
 onTop-nil (pass m ph l) = ap (pass m ph) (append-nil l)
 
-onTop-chain : (l : List Statement) (s : Step) (k : Mode → Phase → Step) → chain (onTop l s) k ≡ onTop l (chain s k)
+onTop-chain : (l : List Statement) (s : Step) (k : Scan → Phase → Step) → chain (onTop l s) k ≡ onTop l (chain s k)
 onTop-chain l halt k = refl
 onTop-chain l (pass m ph x) k = go (k m ph)
   where
@@ -65,12 +65,12 @@ onTop-chain l (pass m ph x) k = go (k m ph)
     go halt = refl
     go (pass m ph y) = ap (pass m ph) (sym (append-assoc y x l))
 
-pub parse-append : (r : Settings) (m : Mode) (ph : Phase) (a b : Bytes) → parse r m ph (a ++ b) ≡ chain (parse r m ph a) (λ m′ ph′. parse r m′ ph′ b)
+pub parse-append : (r : Settings) (m : Scan) (ph : Phase) (a b : Bytes) → parse r m ph (a ++ b) ≡ chain (parse r m ph a) (λ m′ ph′. parse r m′ ph′ b)
 unfolding parse
 parse-append r m ph [] b = sym (onTop-nil (parse r m ph b))
 parse-append r m ph (x ∷ a) b = go (λ m′ ph′. parse-append r m′ ph′ a b) (step r ph (move m ph x))
   where
-    go : ((m′ : Mode) (ph′ : Phase) → parse r m′ ph′ (a ++ b) ≡ chain (parse r m′ ph′ a) (λ m″ ph″. parse r m″ ph″ b)) → (s : Step) → chain s (λ m′ ph′. parse r m′ ph′ (a ++ b)) ≡ chain (chain s (λ m′ ph′. parse r m′ ph′ a)) (λ m″ ph″. parse r m″ ph″ b)
+    go : ((m′ : Scan) (ph′ : Phase) → parse r m′ ph′ (a ++ b) ≡ chain (parse r m′ ph′ a) (λ m″ ph″. parse r m″ ph″ b)) → (s : Step) → chain s (λ m′ ph′. parse r m′ ph′ (a ++ b)) ≡ chain (chain s (λ m′ ph′. parse r m′ ph′ a)) (λ m″ ph″. parse r m″ ph″ b)
     go ih halt = refl
     go ih (pass m′ ph′ l) = ap (onTop l) (ih m′ ph′) ∙ sym (onTop-chain l (parse r m′ ph′ a) (λ m″ ph″. parse r m″ ph″ b))
 
@@ -79,7 +79,7 @@ parse-append r m ph (x ∷ a) b = go (λ m′ ph′. parse-append r m′ ph′ a
 abbrev pub agree : List Statement → State → Step → Type 0
 agree d (stopped n p) s = Unit {0}
 agree d (going g) halt = ⊥
-agree d (going g) (pass m ph l) = (g .mode ≡ m) × (g .phase ≡ ph) × (statements (g .above) ≡ l ++ d)
+agree d (going g) (pass m ph l) = (g .scan ≡ m) × (g .phase ≡ ph) × (statements (g .above) ≡ l ++ d)
 
 settle-agree : (g : Going) (a : Outcome) (t : ℕ) → agree (statements (g .above)) (settle g a t) (after a)
 unfolding statements
@@ -113,10 +113,10 @@ run-agree r [] d (going g) (pass m ph l) h = h
 run-agree r (b ∷ t) d (stopped n p) s h = refused-agree r n p t d (chain s (λ m ph. parse r m ph (b ∷ t)))
 run-agree r (b ∷ t) d (going g) halt h = absurd h
 run-agree r (b ∷ t) d (going g) (pass m ph l) h =
-    onTop-agree l d (run r (advance r g (move (g .mode) (g .phase) b)) t) (parse r m ph (b ∷ t))
-    (subst₂ (λ (m : Mode) (ph : Phase). agree (l ++ d) (run r (advance r g (move (g .mode) (g .phase) b)) t) (parse r m ph (b ∷ t))) (h .0) (h .1)
-    (run-agree r t (l ++ d) (advance r g (move (g .mode) (g .phase) b)) (step r (g .phase) (move (g .mode) (g .phase) b))
-    (subst (λ (x : List Statement). agree x (advance r g (move (g .mode) (g .phase) b)) (step r (g .phase) (move (g .mode) (g .phase) b))) (h .2) (advance-agree r g (move (g .mode) (g .phase) b)))))
+    onTop-agree l d (run r (advance r g (move (g .scan) (g .phase) b)) t) (parse r m ph (b ∷ t))
+    (subst₂ (λ (m : Scan) (ph : Phase). agree (l ++ d) (run r (advance r g (move (g .scan) (g .phase) b)) t) (parse r m ph (b ∷ t))) (h .0) (h .1)
+    (run-agree r t (l ++ d) (advance r g (move (g .scan) (g .phase) b)) (step r (g .phase) (move (g .scan) (g .phase) b))
+    (subst (λ (x : List Statement). agree x (advance r g (move (g .scan) (g .phase) b)) (step r (g .phase) (move (g .scan) (g .phase) b))) (h .2) (advance-agree r g (move (g .scan) (g .phase) b)))))
 
 -- ---- sound: what is said of a statement by those above it
 

@@ -21,7 +21,7 @@ unfolding isOther
 other-byte b e = not-true (isBlank b) e
 
 module _ (r : Settings) (ph : Phase) (es : List Entry) where
-  step : (g : Going) (b : ℕ) (t : Bytes) (mv : Move) → move (g .mode) (g .phase) b ≡ mv → run r (going g) (b ∷ t) ≡ run r (advance r g mv) t
+  step : (g : Going) (b : ℕ) (t : Bytes) (mv : Move) → move (g .scan) (g .phase) b ≡ mv → run r (going g) (b ∷ t) ≡ run r (advance r g mv) t
   unfolding run
   step g b t mv e = ap (λ (x : Move). run r (advance r g x) t) e
 

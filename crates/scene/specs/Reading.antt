@@ -16,13 +16,14 @@ use Rattle.scene.specs.Statement.{Statement, void}
 
 -- ---- bytes into words
 
-pub data Mode : Type 0 where
-  gap comment : Mode
-  within : (sofar : Bytes) → Mode
+-- where the reading is between bytes: in a gap, in a comment, or in a word with what it has so far
+pub data Scan : Type 0 where
+  gap comment : Scan
+  within : (sofar : Bytes) → Scan
 
 -- what a byte does: it goes on, begins a word, is a command's mark, or ends a word
 pub data Move : Type 0 where
-  keep : Mode → Move
+  keep : Scan → Move
   first : (b : ℕ) → Move
   command : Move
   ended : (w : Bytes) → Move
@@ -34,7 +35,7 @@ begins idle b = cond (eqb b (byte "#")) (keep comment) (cond (eqb b (byte "!")) 
 begins (busy m p) b = first b
 
 -- "A line ends with byte 10"; a comment "ends with its line or the text and may hold all bytes"
-abbrev pub move : Mode → Phase → ℕ → Move
+abbrev pub move : Scan → Phase → ℕ → Move
 move gap ph b = cond (isBlank b) (keep gap) (begins ph b)
 move comment ph b = cond (eqb b 10) (keep gap) (keep comment)
 move (within w) ph b = cond (isBlank b) (ended w) (keep (within (w ++ b ∷ [])))
@@ -90,7 +91,7 @@ pub record Entry : Type 0 where
 -- the entries above stand latest first
 pub record Going : Type 0 where
   pub at : ℕ
-  pub mode : Mode
+  pub scan : Scan
   pub phase : Phase
   pub places : Places
   pub above : List Entry
@@ -100,8 +101,8 @@ pub data State : Type 0 where
   going : Going → State
 
 -- a state by its parts
-abbrev pub goingAt : ℕ → Mode → Phase → Places → List Entry → State
-goingAt n m ph k es = going (record { at = n; mode = m; phase = ph; places = k; above = es })
+abbrev pub goingAt : ℕ → Scan → Phase → Places → List Entry → State
+goingAt n m ph k es = going (record { at = n; scan = m; phase = ph; places = k; above = es })
 
 -- the places when a word begins at p
 abbrev pub beginWord : ℕ → Places → Places
@@ -131,7 +132,7 @@ note (busy m part) p k = notePart part p k
 
 -- where a word w has just ended that stands from p on
 abbrev pub atEnd : ℕ → Bytes → Phase → Places → List Entry → Going
-atEnd p w ph k es = record { at = p + length w; mode = within w; phase = ph; places = note ph p k; above = es }
+atEnd p w ph k es = record { at = p + length w; scan = within w; phase = ph; places = note ph p k; above = es }
 
 unfoldable pub statements : List Entry → List Statement
 statements [] = []
@@ -140,12 +141,12 @@ statements (e ∷ es) = e .statement ∷ statements es
 -- a word has ended: "the earliest place decides; at one place, the lowest number"
 abbrev pub settle : Going → Outcome → (tested : ℕ) → State
 settle g (refuse reason) t = stopped reason (g .places .word)
-settle g (into ph) zero = going (record { at = suc (g .at); mode = gap; phase = ph; places = g .places; above = g .above })
+settle g (into ph) zero = going (record { at = suc (g .at); scan = gap; phase = ph; places = g .places; above = g .above })
 settle g (into ph) (suc t) = stopped (suc t) (g .places .word)
 settle g (done s) zero =
     going (record {
       at = suc (g .at);
-      mode = gap;
+      scan = gap;
       phase = idle;
       places = g .places;
       above = record { statement = s; places = g .places; end = g .at } ∷ g .above;
@@ -154,11 +155,11 @@ settle g (done s) (suc t) = stopped (suc t) (g .places .word)
 
 -- "4 command", at the `!`
 abbrev pub advance : Settings → Going → Move → State
-advance r g (keep m) = going (record { at = suc (g .at); mode = m; phase = g .phase; places = g .places; above = g .above })
+advance r g (keep m) = going (record { at = suc (g .at); scan = m; phase = g .phase; places = g .places; above = g .above })
 advance r g (first b) =
     going (record {
       at = suc (g .at);
-      mode = within (b ∷ []);
+      scan = within (b ∷ []);
       phase = g .phase;
       places = note (g .phase) (g .at) (g .places);
       above = g .above;
@@ -168,14 +169,14 @@ advance r g (ended w) = settle g (word r (g .phase) w) (test r (statements (g .a
 
 abbrev pub feed : Settings → State → ℕ → State
 feed r (stopped n p) b = stopped n p
-feed r (going g) b = advance r g (move (g .mode) (g .phase) b)
+feed r (going g) b = advance r g (move (g .scan) (g .phase) b)
 
 unfoldable pub run : Settings → State → Bytes → State
 run r s [] = s
 run r s (b ∷ t) = run r (feed r s b) t
 
 abbrev pub initial : State
-initial = going (record { at = 0; mode = gap; phase = idle; places = record { word = 0; start = 0; name = 0; string = 0 }; above = [] })
+initial = going (record { at = 0; scan = gap; phase = idle; places = record { word = 0; start = 0; name = 0; string = 0 }; above = [] })
 
 -- ---- the answer
 

@@ -19,7 +19,7 @@ use Rattle.numeral.specs.Numeral.{Answer, value, refusal, numeralOf}
 use Rattle.scene.proofs.SyntaxLaws.{Step, halt, pass, after, step, onTop, chain, parse}
 use Rattle.scene.specs.HouseRules.{breach}
 use Rattle.scene.specs.Phase.{Part, atType, atName, atStringCount, atString, atIntegerCount, atRealCount, atReal, atAliasName, atTarget, Phase, idle, busy, Turn, fault, onto, ends, typed, strings, stringCount, integerCount, reals, realCount, real, turn, outcome, taken, unlessFault, word}
-use Rattle.scene.specs.Reading.{Mode, gap, comment, within, Move, keep, first, command, begins, move}
+use Rattle.scene.specs.Reading.{Scan, gap, comment, within, Move, keep, first, command, begins, move}
 use Rattle.scene.specs.declared.Settings.{Settings}
 use Rattle.scene.specs.Statement.{Literal, literal, numbers, alias, Statement, void}
 use Rattle.scene.specs.Types.{Kind, types, numberFrom, typeNumber, isType, stringsAllowed, realsAllowed}
@@ -133,14 +133,14 @@ abbrev PhaseProper : Phase → Type 0
 PhaseProper idle = Unit {0}
 PhaseProper (busy m p) = Partly m p
 
-abbrev ModeProper : Phase → Mode → Type 0
-ModeProper ph gap = Unit {0}
-ModeProper ph comment = Unit {0}
-ModeProper ph (within w) = starts ph w ≡ true
+abbrev ScanProper : Phase → Scan → Type 0
+ScanProper ph gap = Unit {0}
+ScanProper ph comment = Unit {0}
+ScanProper ph (within w) = starts ph w ≡ true
 
 abbrev pub StepProper : Step → Type 0
 StepProper halt = Unit {0}
-StepProper (pass m ph l) = ModeProper ph m × PhaseProper ph × AllProper l
+StepProper (pass m ph l) = ScanProper ph m × PhaseProper ph × AllProper l
 
 module _ (r : Settings) where
   outcome-proper : (m : Bytes) (τ : Turn) → OfTurn m τ → StepProper (after (outcome m τ))
@@ -175,7 +175,7 @@ module _ (r : Settings) where
   starts-snoc idle (c ∷ w) b s = s
   starts-snoc (busy m p) (c ∷ w) b s = refl
 
-  move-proper : (m : Mode) (ph : Phase) (b : ℕ) → ModeProper ph m → PhaseProper ph → StepProper (step r ph (move m ph b))
+  move-proper : (m : Scan) (ph : Phase) (b : ℕ) → ScanProper ph m → PhaseProper ph → StepProper (step r ph (move m ph b))
   move-proper gap ph b s h = cond-elim (λ (v : Move). StepProper (step r ph v)) (isBlank b) (tt, h, tt) (begins-proper ph b h)
   move-proper comment ph b s h = cond-elim (λ (v : Move). StepProper (step r ph v)) (eqb b 10) (tt, h, tt) (tt, h, tt)
   move-proper (within w) ph b s h = cond-elim (λ (v : Move). StepProper (step r ph v)) (isBlank b) (word-proper ph w s h) (starts-snoc ph w b s, h, tt)
@@ -188,11 +188,11 @@ module _ (r : Settings) where
   onTop-proper l halt h k = tt
   onTop-proper l (pass m ph x) h k = (k .0, k .1, proper-append x l (k .2) h)
 
-  chain-proper : (s : Step) (k : Mode → Phase → Step) → StepProper s → ((m : Mode) (ph : Phase) → ModeProper ph m → PhaseProper ph → StepProper (k m ph)) → StepProper (chain s k)
+  chain-proper : (s : Step) (k : Scan → Phase → Step) → StepProper s → ((m : Scan) (ph : Phase) → ScanProper ph m → PhaseProper ph → StepProper (k m ph)) → StepProper (chain s k)
   chain-proper halt k h f = tt
   chain-proper (pass m ph l) k h f = onTop-proper l (k m ph) (h .2) (f m ph (h .0) (h .1))
 
-  pub parse-proper : (t : Bytes) (m : Mode) (ph : Phase) → ModeProper ph m → PhaseProper ph → StepProper (parse r m ph t)
+  pub parse-proper : (t : Bytes) (m : Scan) (ph : Phase) → ScanProper ph m → PhaseProper ph → StepProper (parse r m ph t)
   unfolding parse
   parse-proper [] m ph s h = (s, h, tt)
   parse-proper (b ∷ t) m ph s h = chain-proper (step r ph (move m ph b)) (λ m ph. parse r m ph t) (move-proper m ph b s h) (λ m ph s h. parse-proper t m ph s h)

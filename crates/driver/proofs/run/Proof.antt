@@ -1,14 +1,20 @@
 -- `driver::run` meets its contract.
+use mathlib.Core.List.{List}
 use mathlib.Core.Path.{_≡_, refl, sym, ap, subst, _∙_}
 use Prim.Native.Nat.{ℕ, _+_, _-_}
 use native.Mathlib.Omega.{arith}
 use borrow.Author.Needs.{needs}
+use lib.Ieee.{Float}
 use lib.ListN.{length, length-set, replicate}
 use Rattle.driver.proofs.EndLaws.{ends-accepted, first-inv, reads-as, refuses-with, too-long}
 use Rattle.driver.proofs.MoveLaws.{gets-on}
 use Rattle.driver.proofs.NextLaws.{ready}
-use Rattle.driver.specs.Invariant.{Inv}
+use Rattle.driver.specs.Invariant.{Inv, Ready}
+use Rattle.laws.specs.Bytes.{Bytes}
 use Rattle.scene.specs.HouseRules.{zeroReal}
+use Rattle.scene.specs.declared.Settings.{Settings}
+use Rattle.statement.specs.declared.State.{State}
+use Rattle.statement.specs.declared.Step.{Step}
 use Rattle.driver.proofs.run.Statement.{statement}
 use Rattle.driver.proofs.run.Tie as tie
 
@@ -48,6 +54,41 @@ loop-holds c =
     let a = at-clear .before .before .before .before .before .before .args in
     (subst (Inv _ _ _ _) (sym (c .between .ensures)) (first-inv _ (a .records .now) (a .reals .now) _ _ (at-clear .clear .ensures .0) (at-clear .clear .ensures .1) (at-if1 .if1 .left) _ (c .before .settings-for .ensures)), refl, refl)
 
+-- a turn of the loop, once its step is taken: the text, the tables, the settings and the state, and what holds of them
+module _ (p : tie.After-next-step Inv-loop μ-loop) where
+  abbrev text : Bytes
+  text = p .before .before .before .before .before .before .before .before .before .before .before .before .before .before .before .before .before .args .text .now
+
+  abbrev lent-records : List ℕ
+  lent-records = p .before .before .before .before .before .before .before .before .before .before .before .before .before .before .before .before .before .args .records .now
+
+  abbrev lent-reals : List Float
+  lent-reals = p .before .before .before .before .before .before .before .before .before .before .before .before .before .before .before .before .before .args .reals .now
+
+  abbrev records : List ℕ
+  records = p .before .before .before .loop .records
+
+  abbrev reals : List Float
+  reals = p .before .before .before .loop .reals
+
+  abbrev settings : Settings
+  settings = p .before .before .before .before .before .settings-for .result
+
+  abbrev state : State
+  state = p .before .before .before .loop .s
+
+  inv : Inv text records reals settings state
+  inv = p .before .before .before .loop .inv .0
+
+  kept-records : length records ≡ length lent-records
+  kept-records = p .before .before .before .loop .inv .1 ∙ p .before .before .before .before .before .before .before .before .before .before .before .clear .kept .0
+
+  kept-reals : length reals ≡ length lent-reals
+  kept-reals = p .before .before .before .loop .inv .2 ∙ p .before .before .before .before .before .before .before .before .before .before .before .clear .kept .1 .0
+
+  steps-to : (e : Step) → p .next-step .result ≡ e → Ready text records reals settings state e
+  steps-to e q = ready _ _ _ _ _ inv _ _ (p .next-step .ensures) q
+
 next-step-requires : tie.Need-next-step-requires Inv-loop μ-loop
 next-step-requires c κs = search needs
 
@@ -55,18 +96,12 @@ enum-known-t : tie.Need-enum-known-t Inv-loop μ-loop
 enum-known-t c = search needs
 
 loop-less : tie.Need-loop-less Inv-loop μ-loop
-loop-less c =
-    let at-step = c .before .before .before in
-    let at-loop = at-step .before .before .before in
-    let r = ready _ _ _ _ _ (at-loop .loop .inv .0) _ _ (at-step .next-step .ensures) (c .before .t .given .1) in
-    gets-on _ _ _ _ _ (r .0) _ (r .1)
+loop-less c = let r = steps-to (c .before .before .before) _ (c .before .t .given .1) in gets-on _ _ _ _ _ (r .0) _ (r .1)
 
 loop-again : tie.Need-loop-again Inv-loop μ-loop
 loop-again c =
     let at-step = c .before .before .before in
-    let at-loop = at-step .before .before .before in
-    let r = ready _ _ _ _ _ (at-loop .loop .inv .0) _ _ (at-step .next-step .ensures) (c .before .t .given .1) in
-    (r .0, at-loop .loop .inv .1, at-loop .loop .inv .2)
+    (steps-to at-step _ (c .before .t .given .1) .0, at-step .before .before .before .loop .inv .1, at-step .before .before .before .loop .inv .2)
 
 enum-known-t-2 : tie.Need-enum-known-t-2 Inv-loop μ-loop
 enum-known-t-2 c = search needs
@@ -74,30 +109,18 @@ enum-known-t-2 c = search needs
 mul-reals : tie.Need-mul-reals Inv-loop μ-loop
 mul-reals c =
     let at-step = c .before .before .before in
-    let at-loop = at-step .before .before .before in
-    let r = ready _ _ _ _ _ (at-loop .loop .inv .0) _ _ (at-step .next-step .ensures) (c .before .t2 .given .1) in
-    omega (arith, r .0, at-loop .loop .inv .2, at-loop .before .before .before .before .before .before .before .before .clear .kept .1 .0, at-loop .before .before .before .before .before .before .before .before .before .before .before .before .before .before .good .1 .1 .0 .1)
+    omega (arith, steps-to at-step _ (c .before .t2 .given .1) .0, kept-reals at-step, at-step .before .before .before .before .before .before .before .before .before .before .before .before .before .before .before .before .before .good .1 .1 .0 .1)
 
 slice-write-reals : tie.Need-slice-write-reals Inv-loop μ-loop
-slice-write-reals c =
-    let at-step = c .before .before .before in
-    let at-loop = at-step .before .before .before in
-    let r = ready _ _ _ _ _ (at-loop .loop .inv .0) _ _ (at-step .next-step .ensures) (c .before .t2 .given .1) in
-    r .0
+slice-write-reals c = steps-to (c .before .before .before) _ (c .before .t2 .given .1) .0
 
 loop-less-2 : tie.Need-loop-less-2 Inv-loop μ-loop
-loop-less-2 c =
-    let at-step = c .before .before .before in
-    let at-loop = at-step .before .before .before in
-    let r = ready _ _ _ _ _ (at-loop .loop .inv .0) _ _ (at-step .next-step .ensures) (c .before .t2 .given .1) in
-    let x = r .1 _ refl in gets-on _ _ _ _ _ (x .0) _ (x .1)
+loop-less-2 c = let r = steps-to (c .before .before .before) _ (c .before .t2 .given .1) .1 _ refl in gets-on _ _ _ _ _ (r .0) _ (r .1)
 
 loop-again-2 : tie.Need-loop-again-2 Inv-loop μ-loop
 loop-again-2 c =
     let at-step = c .before .before .before in
-    let at-loop = at-step .before .before .before in
-    let r = ready _ _ _ _ _ (at-loop .loop .inv .0) _ _ (at-step .next-step .ensures) (c .before .t2 .given .1) in
-    (r .1 _ refl .0, at-loop .loop .inv .1, simp length-set (at-loop .loop .inv .2))
+    (steps-to at-step _ (c .before .t2 .given .1) .1 _ refl .0, at-step .before .before .before .loop .inv .1, simp length-set (at-step .before .before .before .loop .inv .2))
 
 enum-known-t-3 : tie.Need-enum-known-t-3 Inv-loop μ-loop
 enum-known-t-3 c = search needs
@@ -105,43 +128,31 @@ enum-known-t-3 c = search needs
 mul-reals-2 : tie.Need-mul-reals-2 Inv-loop μ-loop
 mul-reals-2 c =
     let at-step = c .before .before .before in
-    let at-loop = at-step .before .before .before in
-    let r = ready _ _ _ _ _ (at-loop .loop .inv .0) _ _ (at-step .next-step .ensures) (c .before .t3 .given .1) in
-    omega (arith, r .0, at-loop .loop .inv .2, at-loop .before .before .before .before .before .before .before .before .clear .kept .1 .0, at-loop .before .before .before .before .before .before .before .before .before .before .before .before .before .before .good .1 .1 .0 .1)
+    omega (arith, steps-to at-step _ (c .before .t3 .given .1) .0, kept-reals at-step, at-step .before .before .before .before .before .before .before .before .before .before .before .before .before .before .before .before .before .good .1 .1 .0 .1)
 
 slice-write-reals-2 : tie.Need-slice-write-reals-2 Inv-loop μ-loop
-slice-write-reals-2 c =
-    let at-step = c .before .before .before in
-    let at-loop = at-step .before .before .before in
-    let r = ready _ _ _ _ _ (at-loop .loop .inv .0) _ _ (at-step .next-step .ensures) (c .before .t3 .given .1) in
-    r .0
+slice-write-reals-2 c = steps-to (c .before .before .before) _ (c .before .t3 .given .1) .0
 
 enter-requires : tie.Need-enter-requires Inv-loop μ-loop
 enter-requires c κs = search needs
 
 add-between : tie.Need-add-between Inv-loop μ-loop
-add-between c =
-    let at-step = c .before .before .before .before .before .before .before .before .before in
-    let at-loop = at-step .before .before .before in
-    let r = ready _ _ _ _ _ (at-loop .loop .inv .0) _ _ (at-step .next-step .ensures) (c .before .before .before .before .before .before .before .t3 .given .1) in
-    omega (arith, r .1)
+add-between c = omega (arith, steps-to (c .before .before .before .before .before .before .before .before .before) _ (c .before .before .before .before .before .before .before .t3 .given .1) .1)
 
 between-requires-2 : tie.Need-between-requires-2 Inv-loop μ-loop
 between-requires-2 c κs = search needs
 
 loop-less-3 : tie.Need-loop-less-3 Inv-loop μ-loop
 loop-less-3 c =
-    let at-step = c .before .before .before .before .before .before .before .before .before .before in
-    let at-loop = at-step .before .before .before in
-    let r = ready _ _ _ _ _ (at-loop .loop .inv .0) _ _ (at-step .next-step .ensures) (c .before .before .before .before .before .before .before .before .t3 .given .1) in
-    let x = r .2 _ _ _ refl (c .before .before .before .before .enter .ensures) (c .before .before .before .before .enter .kept .1 .0) (c .between2 .ensures) in gets-on _ _ _ _ _ (x .0) _ (x .1)
+    let at-enter = c .before .before .before .before in
+    let r = steps-to (c .before .before .before .before .before .before .before .before .before .before) _ (c .before .before .before .before .before .before .before .before .t3 .given .1) .2 _ _ _ refl (at-enter .enter .ensures) (at-enter .enter .kept .1 .0) (c .between2 .ensures) in
+    gets-on _ _ _ _ _ (r .0) _ (r .1)
 
 loop-again-3 : tie.Need-loop-again-3 Inv-loop μ-loop
 loop-again-3 c =
-    let at-step = c .before .before .before .before .before .before .before .before .before .before in
-    let at-loop = at-step .before .before .before in
-    let r = ready _ _ _ _ _ (at-loop .loop .inv .0) _ _ (at-step .next-step .ensures) (c .before .before .before .before .before .before .before .before .t3 .given .1) in
-    (r .2 _ _ _ refl (c .before .before .before .before .enter .ensures) (c .before .before .before .before .enter .kept .1 .0) (c .between2 .ensures) .0, c .before .before .before .before .enter .kept .1 .0 ∙ at-loop .loop .inv .1, simp length-set (at-loop .loop .inv .2))
+    let at-enter = c .before .before .before .before in
+    let r = steps-to (c .before .before .before .before .before .before .before .before .before .before) _ (c .before .before .before .before .before .before .before .before .t3 .given .1) .2 _ _ _ refl (at-enter .enter .ensures) (at-enter .enter .kept .1 .0) (c .between2 .ensures) in
+    (r .0, at-enter .enter .kept .1 .0 ∙ c .before .before .before .before .before .before .before .before .before .before .before .before .before .loop .inv .1, simp length-set (c .before .before .before .before .before .before .before .before .before .before .before .before .before .loop .inv .2))
 
 enum-known-t-4 : tie.Need-enum-known-t-4 Inv-loop μ-loop
 enum-known-t-4 c = search needs
@@ -150,28 +161,22 @@ enter-requires-2 : tie.Need-enter-requires-2 Inv-loop μ-loop
 enter-requires-2 c κs = search needs
 
 add-between-2 : tie.Need-add-between-2 Inv-loop μ-loop
-add-between-2 c =
-    let at-step = c .before .before .before .before .before .before .before .before .before in
-    let at-loop = at-step .before .before .before in
-    let r = ready _ _ _ _ _ (at-loop .loop .inv .0) _ _ (at-step .next-step .ensures) (c .before .before .before .before .before .before .before .t4 .given .1) in
-    omega (arith, r .0)
+add-between-2 c = omega (arith, steps-to (c .before .before .before .before .before .before .before .before .before) _ (c .before .before .before .before .before .before .before .t4 .given .1) .0)
 
 between-requires-3 : tie.Need-between-requires-3 Inv-loop μ-loop
 between-requires-3 c κs = search needs
 
 loop-less-4 : tie.Need-loop-less-4 Inv-loop μ-loop
 loop-less-4 c =
-    let at-step = c .before .before .before .before .before .before .before .before .before .before in
-    let at-loop = at-step .before .before .before in
-    let r = ready _ _ _ _ _ (at-loop .loop .inv .0) _ _ (at-step .next-step .ensures) (c .before .before .before .before .before .before .before .before .t4 .given .1) in
-    let x = r .1 _ _ (c .before .before .before .before .enter2 .ensures) (c .before .before .before .before .enter2 .kept .1 .0) (c .between3 .ensures) in gets-on _ _ _ _ _ (x .0) _ (x .1)
+    let at-enter = c .before .before .before .before in
+    let r = steps-to (c .before .before .before .before .before .before .before .before .before .before) _ (c .before .before .before .before .before .before .before .before .t4 .given .1) .1 _ _ (at-enter .enter2 .ensures) (at-enter .enter2 .kept .1 .0) (c .between3 .ensures) in
+    gets-on _ _ _ _ _ (r .0) _ (r .1)
 
 loop-again-4 : tie.Need-loop-again-4 Inv-loop μ-loop
 loop-again-4 c =
-    let at-step = c .before .before .before .before .before .before .before .before .before .before in
-    let at-loop = at-step .before .before .before in
-    let r = ready _ _ _ _ _ (at-loop .loop .inv .0) _ _ (at-step .next-step .ensures) (c .before .before .before .before .before .before .before .before .t4 .given .1) in
-    (r .1 _ _ (c .before .before .before .before .enter2 .ensures) (c .before .before .before .before .enter2 .kept .1 .0) (c .between3 .ensures) .0, c .before .before .before .before .enter2 .kept .1 .0 ∙ at-loop .loop .inv .1, at-loop .loop .inv .2)
+    let at-enter = c .before .before .before .before in
+    let r = steps-to (c .before .before .before .before .before .before .before .before .before .before) _ (c .before .before .before .before .before .before .before .before .t4 .given .1) .1 _ _ (at-enter .enter2 .ensures) (at-enter .enter2 .kept .1 .0) (c .between3 .ensures) in
+    (r .0, at-enter .enter2 .kept .1 .0 ∙ c .before .before .before .before .before .before .before .before .before .before .before .before .before .loop .inv .1, c .before .before .before .before .before .before .before .before .before .before .before .before .before .loop .inv .2)
 
 enum-known-reason : tie.Need-enum-known-reason Inv-loop μ-loop
 enum-known-reason c = search needs
@@ -180,47 +185,32 @@ clear-requires-2 : tie.Need-clear-requires-2 Inv-loop μ-loop
 clear-requires-2 c κs = search needs
 
 same-length-3 : tie.Need-same-length-3 Inv-loop μ-loop
-same-length-3 c =
-    let at-clear2 = c .before .before .before .before in
-    let at-loop = at-clear2 .before .before .before .before .before .before .before .before .before in
-    at-clear2 .clear2 .kept .0 ∙ at-loop .loop .inv .1 ∙ at-loop .before .before .before .before .before .before .before .before .clear .kept .0
+same-length-3 c = c .before .before .before .before .clear2 .kept .0 ∙ kept-records (c .before .before .before .before .before .before .before .before .before .before)
 
 same-length-4 : tie.Need-same-length-4 Inv-loop μ-loop
-same-length-4 c =
-    let at-clear2 = c .before .before .before .before in
-    let at-loop = at-clear2 .before .before .before .before .before .before .before .before .before in
-    at-clear2 .clear2 .kept .1 .0 ∙ at-loop .loop .inv .2 ∙ at-loop .before .before .before .before .before .before .before .before .clear .kept .1 .0
+same-length-4 c = c .before .before .before .before .clear2 .kept .1 .0 ∙ kept-reals (c .before .before .before .before .before .before .before .before .before .before)
 
 returns-2 : tie.Need-returns-2 Inv-loop μ-loop
 unfolding lib.Ieee.ofBits
 returns-2 c =
-    let at-clear2 = c .before .before .before .before in
-    let at-step = at-clear2 .before .before .before .before .before .before in
-    let at-loop = at-step .before .before .before in
-    let r = ready _ _ _ _ _ (at-loop .loop .inv .0) _ _ (at-step .next-step .ensures) (at-clear2 .before .before .before .before .reason .given .1) in
-    let at-clear = at-loop .before .before .before .before .before .before .before .before in
-    let a = at-clear .before .before .before .before .before .before .args in
-    let l = at-loop .loop .inv .1 ∙ at-clear .clear .kept .0 in
-    let m = at-loop .loop .inv .2 ∙ at-clear .clear .kept .1 .0 in
-    refuses-with (a .text .now) (a .records .now) (a .reals .now) _ _ (at-clear2 .clear2 .ensures .0 ∙ ap (λ (n : ℕ). replicate n 0) l) (at-clear2 .clear2 .ensures .1 ∙ ap (λ (n : ℕ). replicate n zeroReal) m) _ _ (reads-as (a .text .now) (a .records .now) (a .reals .now) _ _ _ _ (at-loop .loop .inv .0) l m ∙ r)
+    let cleared = c .before .before .before .before .clear2 .ensures in
+    let p = c .before .before .before .before .before .before .before .before .before .before in
+    refuses-with (text p) (lent-records p) (lent-reals p) _ _ (cleared .0 ∙ ap (λ (n : ℕ). replicate n 0) (kept-records p)) (cleared .1 ∙ ap (λ (n : ℕ). replicate n zeroReal) (kept-reals p)) _ _
+    (reads-as (text p) (lent-records p) (lent-reals p) _ _ _ _ (inv p) (kept-records p) (kept-reals p) ∙ steps-to p _ (c .before .before .before .before .before .before .before .before .reason .given .1))
 
 enum-told : tie.Need-enum-told Inv-loop μ-loop
 enum-told c = search needs
 
 same-length-5 : tie.Need-same-length-5 Inv-loop μ-loop
-same-length-5 c = c .before .before .before .before .before .loop .inv .1 ∙ c .before .before .before .before .before .before .before .before .before .before .before .before .before .clear .kept .0
+same-length-5 c = kept-records (c .before .before)
 
 same-length-6 : tie.Need-same-length-6 Inv-loop μ-loop
-same-length-6 c = c .before .before .before .before .before .loop .inv .2 ∙ c .before .before .before .before .before .before .before .before .before .before .before .before .before .clear .kept .1 .0
+same-length-6 c = kept-reals (c .before .before)
 
 returns-3 : tie.Need-returns-3 Inv-loop μ-loop
 returns-3 c =
-    let at-step = c .before .before in
-    let at-loop = at-step .before .before .before in
-    let r = ready _ _ _ _ _ (at-loop .loop .inv .0) _ _ (at-step .next-step .ensures) (c .enum-told .given .1) in
-    let at-clear = at-loop .before .before .before .before .before .before .before .before in
-    let a = at-clear .before .before .before .before .before .before .args in
-    ends-accepted (a .text .now) (a .records .now) (a .reals .now) _ _ _ _ (at-loop .loop .inv .0) (at-loop .loop .inv .1 ∙ at-clear .clear .kept .0) (at-loop .loop .inv .2 ∙ at-clear .clear .kept .1 .0) _ _ r
+    let p = c .before .before in
+    ends-accepted (text p) (lent-records p) (lent-reals p) _ _ _ _ (inv p) (kept-records p) (kept-reals p) _ _ (steps-to p _ (c .enum-told .given .1))
 
 pub run-spec : {M : Type 1} → statement M
 run-spec =

@@ -21,6 +21,11 @@
 extern "C" {
 #endif
 
+/* How a text is read. New scenes may have no antimatter; the archive reading, for old ones, accepts it. Every text that the new
+ * reading accepts has the same answer and the same tables in the archive one. A mode is given by its number, and any number but 1 is
+ * the new reading. */
+enum kribbelsteen_mode { KRIBBELSTEEN_NEW = 0, KRIBBELSTEEN_ARCHIVE = 1 };
+
 /* Limits of a scene: bytes of a text, bytes of a word, primitives, reals. */
 #define KRIBBELSTEEN_MOST_BYTES 65536
 #define KRIBBELSTEEN_LONGEST_WORD 64
@@ -61,6 +66,7 @@ enum kribbelsteen_reason {
     KRIBBELSTEEN_BAD_NUMERAL = 14,      /* breaks the numeral rule (numeral) */
     KRIBBELSTEEN_NUMERAL_RANGE = 15,    /* coefficient or power too large (numeral) */
     KRIBBELSTEEN_HOUSE_RULE = 16,       /* breaks a house rule (the real that completes the breach) */
+    KRIBBELSTEEN_RETIRED_TYPE = 28,     /* antimatter, in the new reading (type) */
     /* kribbelsteen_name and kribbelsteen_finish */
     KRIBBELSTEEN_NO_SUCH_PRIMITIVE = 17,
     KRIBBELSTEEN_BAD_TABLE = 18,
@@ -83,16 +89,17 @@ enum kribbelsteen_state { KRIBBELSTEEN_ONLY_LEFT = 1, KRIBBELSTEEN_ONLY_RIGHT = 
 #define KRIBBELSTEEN_MISS 1
 #define KRIBBELSTEEN_TOTAL_REFLECTION 1
 
-/* Reads a scene text into two tables.
+/* Reads a scene text, in a mode, into two tables.
  *
  * There is room for the lesser of 1,024 and records_len / 10 records, and for the lesser of 4,096 and reals_len reals.
- * Returns 0 if the scene is accepted, else the reason, 1 to 16; the earliest place decides, and at one place the lowest number.
+ * Returns 0 if the scene is accepted, else the reason, 1 to 16 or 28; the earliest place decides, and at one place the lowest
+ * number.
  * answer: place of the refusal, number of primitives, number of reals. An accepted scene has place 0, a refused one both
  * numbers 0.
  * Writes both tables whole, whatever they held: after acceptance all entries beyond those used are 0, and after a refusal all
  * entries are 0. The text is not written. */
-uint32_t kribbelsteen_read(const uint8_t *text, size_t text_len, uint32_t *records, size_t records_len, double *reals,
-                           size_t reals_len, size_t answer[3]);
+uint32_t kribbelsteen_read(uint32_t mode, const uint8_t *text, size_t text_len, uint32_t *records, size_t records_len,
+                           double *reals, size_t reals_len, size_t answer[3]);
 
 /* The name of a primitive, in a table of `count` records that may hold anything.
  *
@@ -120,16 +127,16 @@ uint32_t kribbelsteen_finish(const uint32_t *records, size_t records_len, size_t
  * There is no refusal, and nothing else is written. */
 void kribbelsteen_next_word(const uint8_t *text, size_t text_len, size_t at, size_t answer[2]);
 
-/* Reads two scene texts, each into two tables of its own, as kribbelsteen_read does.
+/* Reads two scene texts, both in one mode, each into two tables of its own, as kribbelsteen_read does.
  *
- * Returns 0 if both are accepted, else the reason, 1 to 16, of the one that is refused: the left one if both are.
+ * Returns 0 if both are accepted, else the reason, 1 to 16 or 28, of the one that is refused: the left one if both are.
  * answer: which save is refused and the place there; then primitives and reals of the left save, and of the right one. Accepted
  * saves have side and place 0, refused ones all four numbers 0.
  * Writes all four tables whole, whatever they held: after a refusal of either save all entries of all of them are 0. */
-uint32_t kribbelsteen_read_both(const uint8_t *left, size_t left_len, uint32_t *left_records, size_t left_records_len,
-                                double *left_reals, size_t left_reals_len, const uint8_t *right, size_t right_len,
-                                uint32_t *right_records, size_t right_records_len, double *right_reals, size_t right_reals_len,
-                                size_t answer[6]);
+uint32_t kribbelsteen_read_both(uint32_t mode, const uint8_t *left, size_t left_len, uint32_t *left_records,
+                                size_t left_records_len, double *left_reals, size_t left_reals_len, const uint8_t *right,
+                                size_t right_len, uint32_t *right_records, size_t right_records_len, double *right_reals,
+                                size_t right_reals_len, size_t answer[6]);
 
 /* The next line of a comparison of two saves by name. The key of a primitive is its name and nth: which definition of that name it
  * is, from 1. A key has a line if only one save has it, or if both have it and type, strings, bits of the reals, key of the alias
@@ -157,13 +164,13 @@ uint32_t kribbelsteen_next_line(const uint8_t *left, size_t left_len, const uint
  * three with its count first) and one for an alias, one space between two words, no comments. An output of text_len + 1 bytes is
  * enough.
  *
- * The tables may hold anything: they are compared with a new reading of the text into tables of the same lengths, which takes about
- * 75 KB of stack. The used parts of longer tables will do.
- * Returns 0, or refuses: 1 to 16 as that reading does, then 22 if the tables differ from its tables in any entry or bit, then 23 if
+ * The tables may hold anything: they are compared with a fresh reading of the text, in the mode, into tables of the same lengths,
+ * which takes about 75 KB of stack. The used parts of longer tables will do.
+ * Returns 0, or refuses: 1 to 16 or 28 as that reading does, then 22 if the tables differ from its tables in any entry or bit, then 23 if
  * the text is longer than the output.
  * answer: place of the refusal, bytes of the tidy text. A written scene has place 0, a refused one length 0.
  * Writes the output whole: bytes behind the text are 0, and on a refusal all are. The tables are not written. */
-uint32_t kribbelsteen_write(const uint8_t *text, size_t text_len, const uint32_t *records, size_t records_len,
+uint32_t kribbelsteen_write(uint32_t mode, const uint8_t *text, size_t text_len, const uint32_t *records, size_t records_len,
                             const double *reals, size_t reals_len, uint8_t *out, size_t out_len, size_t answer[2]);
 
 /* Where a ray hits a sphere.

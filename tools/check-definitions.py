@@ -20,8 +20,8 @@ TOP = pathlib.Path(__file__).resolve().parent.parent
 OTHERS = "samples|bits|comparison|content|keys"  # crates that the samples use and a reading does not
 
 
-def expected(text, records, reals):
-    table, doubles = scene.read(text, records, reals)
+def expected(archive, text, records, reals):
+    table, doubles = scene.read(archive, text, records, reals)
     if isinstance(table, int):
         return [table, doubles, 0, 0]
     return [0, 0, len(table), len(doubles)] + [n for r in table for n in r] + doubles
@@ -37,12 +37,12 @@ opened = (TOP / "crates/samples/proofs/SampleLaws.antt").read_text()
 uses = [line for line in opened.split("\n") if line.startswith("use ") and "proofs" not in line and not re.search("·(%s)[.·]" % OTHERS, line)]
 names = [line[len("unfolding ") :] for line in opened.split("\n") if line.startswith("unfolding ")][:2]
 rows, reasons = [], collections.Counter()
-for k, (text, records, reals) in enumerate(texts.texts(seed, count, 3)):
-    right = expected(text, records, reals)
+for k, (archive, text, records, reals) in enumerate(texts.texts(seed, count, 3)):
+    right = expected(archive, text, records, reals)
     reasons[right[0]] += 1
     rows.append(
-        "row%d : facts (record { records = %d; reals = %d }) %s ≡ %s\nunfolding facts everything\nrow%d = refl\n"
-        % (k, records, reals, numbers(text), numbers(right), k)
+        "row%d : facts (record { mode = %s; records = %d; reals = %d }) %s ≡ %s\nunfolding facts everything\nrow%d = refl\n"
+        % (k, "Archive" if archive else "New", records, reals, numbers(text), numbers(right), k)
     )
 with tempfile.TemporaryDirectory() as folder:
     copy = pathlib.Path(folder, "copy")
@@ -53,7 +53,7 @@ with tempfile.TemporaryDirectory() as folder:
     (crate / "src" / "lib.rt").write_text("// Rows computed from the definitions.\n")
     (crate / "specs" / "Lib.antt").write_text("pub mod Rows\n")
     head = [line.replace("Rattle.scene.specs", "Rattle.scene") for line in uses]
-    head += ["use mathlib.Core.List.{map}", "use lib.Ieee.{binary64}", "use Rattle.scene.specs.Record.{answer, flat, fields}", "use Rattle.scene.specs.declared.Settings.{Settings}"]
+    head += ["use mathlib.Core.List.{map}", "use lib.Ieee.{binary64}", "use Rattle.scene.specs.Record.{answer, flat, fields}"]
     everything = "everything : ℕ\nunfolding " + names[0] + " " + names[1].replace("readings ", "") + " flat toBits\neverything = 0\n"
     facts = (
         "facts : Settings → Bytes → List ℕ\n"

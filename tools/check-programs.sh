@@ -76,14 +76,51 @@ done
 for program in list finishes tidy; do
     expect '$bin/$program $scene $scene >/dev/full' '' "$full"
     expect '$bin/$program $scene $scene >&-' '' $'standard output: Bad file descriptor\n'
-    # An option is refused before anything is done.
-    expect '$bin/$program -x $scene' "usage: $program [FILE..]"$'\n' ''
-    expect '$bin/$program $scene -' "usage: $program [FILE..]"$'\n' ''
+    # An option that is unknown, or stands behind a file, is refused before anything is done.
+    for arguments in '-x $scene' '$scene -' '--archiv $scene' '--archives $scene' '$scene --archive' '--archive --archive $scene' '--archive -x'; do
+        expect '$bin/$program '"$arguments" "usage: $program [--archive] [FILE..]"$'\n' ''
+    done
 done
 expect '$bin/compare $scene samples/truck-nine-morning.rad >/dev/full' '' "$full"
 expect '$bin/compare $scene missing >/dev/full' '' "$full"
-expect '$bin/compare -x $scene' $'usage: compare LEFT RIGHT\n' ''
-expect '$bin/compare $scene' $'usage: compare LEFT RIGHT\n' ''
+for arguments in '-x $scene' '$scene' '-x $scene $scene' '--archive $scene' '$scene --archive $scene' '--archive $scene $scene $scene'; do
+    expect '$bin/compare '"$arguments" $'usage: compare [--archive] LEFT RIGHT\n' ''
+done
+
+# The archive reading, on standard input, of a file and of several.
+old=samples/truck-four.rad
+retired=$'refused=28 place=120\n'
+archive='archive=1
+primitives=6 reals=25
+no=1 mod=0 alias=0 type=plastic name=deskfront next=0
+no=2 mod=0 alias=0 type=antimatter name=opening next=0
+no=3 mod=0 alias=2 type=antimatter name=slot next=0
+no=4 mod=1 alias=0 type=polygon name=desk next=0
+no=5 mod=2 alias=0 type=sphere name=hatch next=0
+no=6 mod=3 alias=0 type=sphere name=keyhole next=0
+'
+old_finishes='no=4 type=polygon name=desk finish=1 finish_name=deskfront links=1
+no=5 type=sphere name=hatch finish=2 finish_name=opening links=1
+no=6 type=sphere name=keyhole finish=3 finish_name=slot links=1
+'
+expect '$bin/list $old' "$retired" ''
+expect '$bin/list --archive $old' "$archive" ''
+expect '$bin/list --archive <$old' "$archive" ''
+expect '$bin/list --archive $scene' $'archive=1\n'"$listing" ''
+expect '$bin/list --archive $scene $old' "scene=$scene"$'\narchive=1\n'"${listing}scene=$old"$'\n'"$archive" ''
+expect '$bin/list --archive <$scratch/refused' $'refused=7 place=0\n' ''
+expect '$bin/finishes $old' "$retired" ''
+expect '$bin/finishes --archive $old' "$old_finishes" ''
+expect '$bin/finishes --archive <$old' "$old_finishes" ''
+expect '$bin/finishes --archive $scene' "$finishes" ''
+expect '$bin/tidy <$old' "$retired" "$retired"
+expect '$bin/tidy --archive <$scene' "$tidy" ''
+expect '$bin/tidy --archive missing' $'scene=missing unreadable\n' $'scene=missing unreadable\n'
+expect '$bin/tidy --archive <$old | $bin/list --archive' "$archive" ''
+expect '$bin/compare $scene $old' $'scene=right refused=28 place=120\n' ''
+expect '$bin/compare $old $scene' $'scene=left refused=28 place=120\n' ''
+expect '$bin/compare --archive $old $old' '' ''
+expect '$bin/compare --archive $old missing' $'scene=right unreadable\n' ''
 
 echo "$passed passed, $failed failed"
 [ "$failed" -eq 0 ]

@@ -3,8 +3,8 @@
 
     tools/compare-pairs.py [COUNT [SEED [FOLDER]]]
 
-COUNT is 6000 and FOLDER target/bin if not given. In a pair the second save is the first one edited, or another scene, or either is
-damaged or no file. Prints how often each edit was made, what the pairs came to, and how many differ in what the program prints: the
+COUNT is 6000 and FOLDER target/bin if not given. Half of the pairs are read in the archive reading. In a pair the
+second save is the first one edited, or another scene, or either is damaged or no file. Prints how often each edit was made, what the pairs came to, and how many differ in what the program prints: the
 exit status is 1 if any does, or if an edit or an outcome turned up in none."""
 import collections
 import pathlib
@@ -23,11 +23,11 @@ NO_FILES = ["missing", "folder"]
 OUTCOMES = "equal,state=left,state=right,state=changed,left refused,right refused,left unreadable,right unreadable".split(",")
 
 
-def scene_of(rng, most):
+def scene_of(rng, archive, most):
     """The statements of an accepted scene, each a list of words."""
-    reader, statements = scene.Reader(b"", 1024, 4096), []
+    reader, statements = scene.Reader(archive, b"", 1024, 4096), []
     for _ in range(rng.randrange(most + 1)):
-        words = texts.statement(rng, [w[2] for w in statements if w[1] not in texts.SURFACES])
+        words = texts.statement(rng, archive, [w[2] for w in statements if w[1] not in texts.SURFACES])
         used = len(reader.reals)
         reader.text, reader.at = " ".join(words).encode(), 0
         try:
@@ -131,7 +131,7 @@ def removed(rng, statements):
 
 def added(rng, statements):
     at = rng.randrange(len(statements) + 1)
-    statements.insert(at, texts.statement(rng, [words[2] for words in statements[:at]]))
+    statements.insert(at, texts.statement(rng, rng.random() < 0.5, [words[2] for words in statements[:at]]))
 
 
 def doubled(rng, statements):
@@ -186,11 +186,11 @@ def damaged(rng, text, made):
     return rng.choice(NO_FILES)
 
 
-def pair(rng, most, made):
-    statements = scene_of(rng, most)
+def pair(rng, archive, most, made):
+    statements = scene_of(rng, archive, most)
     left = spelled(rng, statements)
     if rng.random() < 0.1:
-        right = texts.text(rng, most)
+        right = texts.text(rng, archive, most)
         made["another_scene"] += 1
     else:
         right = spelled(rng, edited(rng, statements, made))
@@ -203,16 +203,17 @@ def pair(rng, most, made):
 
 def every_pair(rng, count, made):
     limits = texts.limits()
-    yield limits["full"], limits["full"]
-    yield limits["full"], limits["full"].replace(b" 1\n", b" 2\n")
+    yield False, limits["full"], limits["full"]
+    yield False, limits["full"], limits["full"].replace(b" 1\n", b" 2\n")
     # As many lines as two scenes can have.
-    yield texts.named(b"l", 1024), texts.named(b"r", 1024)
+    yield False, texts.named(b"l", 1024), texts.named(b"r", 1024)
     for text in limits.values():
-        yield text, b""
-        yield b"", text
+        yield False, text, b""
+        yield False, b"", text
     # One in fifty is long.
     for number in range(count):
-        yield pair(rng, 150 if number % 50 == 0 else 12, made)
+        archive = rng.random() < 0.5
+        yield archive, *pair(rng, archive, 150 if number % 50 == 0 else 12, made)
 
 
 def outcomes(answer):
@@ -239,10 +240,10 @@ compared = differ = 0
 with tempfile.TemporaryDirectory() as scratch:
     scratch = pathlib.Path(scratch)
     (scratch / "folder").mkdir()
-    for left, right in every_pair(random.Random(seed), count, made):
+    for archive, left, right in every_pair(random.Random(seed), count, made):
         files = [put(left, scratch / "left"), put(right, scratch / "right")]
-        answer = compare.compare_files(*files)
-        run = subprocess.run([folder / "compare", *files], stdout=subprocess.PIPE)
+        answer = compare.compare_files(archive, *files)
+        run = subprocess.run([folder / "compare", *["--archive"] * archive, *files], stdout=subprocess.PIPE)
         compared += 1
         reached.update(set(outcomes(answer)))
         if run.returncode != 0 or run.stdout != answer.encode():

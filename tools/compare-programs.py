@@ -1,7 +1,8 @@
 #!/usr/bin/env python3
 """Whether the programs list and finishes print what tools/scene.py does, and tidy what tools/tidy.py does, on texts made from a
-seed and on those at the limits, each on standard input; whether a tidy text is its own, with the same listing; and whether tidy
-alone says its refusals on standard error too.
+seed and on those at the limits, each on standard input and half of them in the archive reading; whether a tidy text is its own, with
+the same listing; whether a text that the new reading accepts has the same listing in the archive one, below its line; and whether
+tidy alone says its refusals on standard error too.
 
     tools/compare-programs.py [COUNT [SEED [FOLDER]]]
 
@@ -17,19 +18,21 @@ import texts
 import tidy
 
 TOP = pathlib.Path(__file__).resolve().parent.parent
-REASONS = [0, *range(1, 11), *range(12, 17)]  # 0 is accepted, and 11 is given no more
+REASONS = [0, *range(1, 11), *range(12, 17), 28]  # 0 is accepted, and 11 is given no more
 
 
 def every_text(seed, count):
-    yield from texts.limits().values()
+    for text in texts.limits().values():
+        yield False, text
     # The tidy text just fits, or is a byte too long.
-    yield from (texts.packed(65535), texts.packed(65535) + b"\n", texts.packed(65536))
+    for text in (texts.packed(65535), texts.packed(65535) + b"\n", texts.packed(65536)):
+        yield False, text
     # One in a hundred is long.
     long = count // 100
-    for text, _, _ in texts.texts(seed, long, 200):
-        yield text
-    for text, _, _ in texts.texts(seed + 1, count - long, 8):
-        yield text
+    for archive, text, _, _ in texts.texts(seed, long, 200):
+        yield archive, text
+    for archive, text, _, _ in texts.texts(seed + 1, count - long, 8):
+        yield archive, text
 
 
 def reason_of(listing):
@@ -41,20 +44,22 @@ count = int(sys.argv[1]) if len(sys.argv) > 1 else 20000
 seed = int(sys.argv[2]) if len(sys.argv) > 2 else 1
 folder = pathlib.Path(sys.argv[3]) if len(sys.argv) > 3 else TOP / "target/bin"
 reasons, differ = collections.Counter(), 0
-for text in every_text(seed, count):
-    right = scene.listing(text).encode()
+for archive, text in every_text(seed, count):
+    right = scene.listing(archive, text).encode()
     reasons[reason_of(right)] += 1
-    neat = tidy.tidied(text)
-    asked = [("list", text, right), ("finishes", text, scene.finishes(text).encode()), ("tidy", text, neat)]
+    neat = tidy.tidied(archive, text)
+    asked = [("list", archive, text, right), ("finishes", archive, text, scene.finishes(archive, text).encode()), ("tidy", archive, text, neat)]
     if not neat.startswith(b"refused="):
-        asked += [("list", neat, right), ("tidy", neat, neat)]
-    for program, text, right in asked:
+        asked += [("list", archive, neat, right), ("tidy", archive, neat, neat)]
+    if not archive and reason_of(right) == 0:
+        asked += [("list", True, text, b"archive=1\n" + right)]
+    for program, archive, text, right in asked:
         said = right if program == "tidy" and right.startswith(b"refused=") else b""
-        run = subprocess.run([folder / program], input=text, capture_output=True)
+        run = subprocess.run([folder / program, *["--archive"] * archive], input=text, capture_output=True)
         if run.returncode != 0 or run.stdout != right or run.stderr != said:
             differ += 1
             if differ <= 5:
-                print("%s differs on %r: %r, not %r" % (program, text[:300], run.stdout[:300], right[:300]))
+                print("%s%s differs on %r: %r, not %r" % (program, " --archive" * archive, text[:300], run.stdout[:300], right[:300]))
 for reason in REASONS:
     print("%6d %s" % (reasons[reason], "refused=%d" % reason if reason else "accepted"))
 missed = [reason for reason in REASONS if reasons[reason] == 0]

@@ -1,9 +1,9 @@
 #!/usr/bin/env python3
 """Two saves of a scene compared by name, written from request L1 alone: what the program compare is compared with.
 
-    tools/compare.py LEFT RIGHT        the lines of two files, or the refusal of one
+    tools/compare.py [--archive] LEFT RIGHT        the lines of two files, or the refusal of one
 
-compare(left, right) gives the lines of two texts, and compare_files those of two files."""
+compare_files(archive, left, right) gives the lines of two files, both read in one mode."""
 import collections
 import pathlib
 import sys
@@ -30,8 +30,8 @@ def contents(text, records, reals):
     return found
 
 
-def read(side, text):
-    records, reals = scene.read(text)
+def read(archive, side, text):
+    records, reals = scene.read(archive, text)
     if isinstance(records, int):
         raise Refused("scene=%s refused=%d place=%d\n" % (side, records, reals))
     return contents(text, records, reals)
@@ -47,27 +47,22 @@ def lines(left, right):
     return "".join(out)
 
 
-def compare(left, right):
-    try:
-        return lines(read("left", left), read("right", right))
-    except Refused as refused:
-        return str(refused)
-
-
-def read_file(side, path):
+def read_file(archive, side, path):
     try:
         text = pathlib.Path(path).read_bytes()
     except OSError:
         raise Refused("scene=%s unreadable\n" % side)
-    return read(side, text)
+    return read(archive, side, text)
 
 
-def compare_files(left, right):
+def compare_files(archive, left, right):
     try:
-        return lines(read_file("left", left), read_file("right", right))
+        return lines(read_file(archive, "left", left), read_file(archive, "right", right))
     except Refused as refused:
         return str(refused)
 
 
 if __name__ == "__main__":
-    sys.stdout.write(compare_files(*sys.argv[1:]) if len(sys.argv) == 3 else "usage: compare LEFT RIGHT\n")
+    archive = sys.argv[1:2] == ["--archive"]
+    files = sys.argv[1 + archive :]
+    sys.stdout.write(compare_files(archive, *files) if len(files) == 2 else "usage: compare [--archive] LEFT RIGHT\n")

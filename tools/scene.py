@@ -1,10 +1,10 @@
 #!/usr/bin/env python3
-"""A reader of scene texts, written from document 01 alone: what the definitions and the program are compared with.
+"""A reader of scene texts, written from the documents alone: what the definitions and the program are compared with.
 
-    tools/scene.py < TEXT        the listing of a text, or its refusal
+    tools/scene.py [--archive] [finishes] < TEXT        the listing of a text or its finishes, or its refusal
 
-read(text, record_room, real_room) gives (reason, place) for a refused text, else (records, reals): lists of ten numbers, and the
-bits of the doubles."""
+read(archive, text, record_room, real_room) gives (reason, place) for a refused text, else (records, reals): lists of ten numbers,
+and the bits of the doubles. Only the archive reading accepts antimatter."""
 import sys
 
 import numerals
@@ -70,7 +70,8 @@ def count(word):
 
 
 class Reader:
-    def __init__(self, text, record_room, real_room):
+    def __init__(self, archive, text, record_room, real_room):
+        self.archive = archive
         self.text, self.at = text, 0
         self.record_room, self.real_room = record_room, real_room
         self.names, self.records, self.reals = [], [], []
@@ -133,6 +134,8 @@ class Reader:
             kind = kind.decode()
             if kind not in TYPES:
                 raise Refused(8, place)
+            if kind == "antimatter" and not self.archive:
+                raise Refused(28, place)
             name, at = self.named()
             record = [TYPES.index(kind) + 1, link, 0, at, len(name)] + self.arguments(kind) + [0]
         earlier = self.latest(name)
@@ -184,15 +187,15 @@ class Reader:
             return refused.answer
 
 
-def read(text, record_room=1024, real_room=4096):
-    return Reader(text, record_room, real_room).read()
+def read(archive, text, record_room=1024, real_room=4096):
+    return Reader(archive, text, record_room, real_room).read()
 
 
-def listing(text, record_room=1024, real_room=4096):
-    records, reals = read(text, record_room, real_room)
+def listing(archive, text):
+    records, reals = read(archive, text)
     if isinstance(records, int):
         return "refused=%d place=%d\n" % (records, reals)
-    lines = ["primitives=%d reals=%d\n" % (len(records), len(reals))]
+    lines = ["archive=1\n"] * archive + ["primitives=%d reals=%d\n" % (len(records), len(reals))]
     for number, r in enumerate(records, 1):
         name = text[r[3] : r[3] + r[4]].decode()
         lines.append("no=%d mod=%d alias=%d type=%s name=%s next=%d\n" % (number, r[1], r[2], TYPES[r[0] - 1], name, r[9]))
@@ -210,8 +213,8 @@ def finish(records, number):
     return at, links
 
 
-def finishes(text, record_room=1024, real_room=4096):
-    records, reals = read(text, record_room, real_room)
+def finishes(archive, text):
+    records, reals = read(archive, text)
     if isinstance(records, int):
         return "refused=%d place=%d\n" % (records, reals)
 
@@ -228,5 +231,5 @@ def finishes(text, record_room=1024, real_room=4096):
 
 
 if __name__ == "__main__":
-    answer = finishes if sys.argv[1:] == ["finishes"] else listing
-    sys.stdout.write(answer(sys.stdin.buffer.read()))
+    answer = finishes if "finishes" in sys.argv[1:] else listing
+    sys.stdout.write(answer(sys.argv[1:2] == ["--archive"], sys.stdin.buffer.read()))

@@ -1,6 +1,7 @@
 #!/usr/bin/env python3
-"""Scene texts to try a reader on, valid and damaged, made from a seed: texts(seed, count, most) yields (text, record_room, real_room)
-with at most so many statements each. Every reason for refusing turns up among them, 6 and 13 by the smaller rooms, but not 1.
+"""Scene texts to try a reader on, valid and damaged, made from a seed: texts(seed, count, most) yields
+(archive, text, record_room, real_room), half of them for the archive reading, with at most so many statements each. Every reason
+for refusing turns up among them, 6 and 13 by the smaller rooms, but not 1.
 
     tools/texts.py NAME      writes a text at or just past a limit of document 01: see limits; or a stored one of two saves that
                              have no name in common, left or right"""
@@ -15,14 +16,15 @@ BAD_NUMERALS = ". e5 1e 1.2.3 1e1000 0x1 -".split()
 LARGE_NUMERALS = "1e23 1000000000000000 1e-23 9999999999999999".split()
 LONG = "y" * 65
 SURFACES = scene.TYPES[: scene.LAST_SURFACE]
+NEW_TYPES = [kind for kind in scene.TYPES if kind != "antimatter"]
 
 
-def statement(rng, names):
+def statement(rng, archive, names):
     """A statement as words, likely to be accepted after those whose names are given."""
     modifier = rng.choice(["void"] + names * 2) if names else "void"
     if names and rng.random() < 0.2:
         return [modifier, "alias", rng.choice(NAMES), rng.choice(names)]
-    kind = rng.choice(scene.TYPES)
+    kind = rng.choice(scene.TYPES if archive or rng.random() < 0.2 else NEW_TYPES)
     strings = rng.choice([n for n in range(7) if scene.strings_allowed(kind, n)])
     reals = rng.choice([n for n in range(13) if scene.reals_allowed(kind, n)])
     words = [modifier, kind, rng.choice(NAMES)]
@@ -60,12 +62,12 @@ def spoil(rng, words):
         del words[at]
 
 
-def text(rng, most):
+def text(rng, archive, most):
     out, names = b"", []
     for _ in range(rng.randrange(most + 1)):
         if rng.random() < 0.2:
             out += rng.choice([b"# note \xff!\n", b"\n", b"  \t\n", b"#\n", b" # trailing\r\n"])
-        words = statement(rng, names)
+        words = statement(rng, archive, names)
         if rng.random() < 0.12:
             spoil(rng, words)
         elif words[1] not in SURFACES or rng.random() < 0.1:
@@ -91,7 +93,8 @@ def texts(seed, count, most):
     for _ in range(count):
         records = rng.choice([0, 1, 2, 3, 5] + [1024] * 15)
         reals = rng.choice([0, 3, 8, 20] + [4096] * 16)
-        yield text(rng, most), records, reals
+        archive = rng.random() < 0.5
+        yield archive, text(rng, archive, most), records, reals
 
 
 def sized(primitives=1, reals=0, word=1, size=0):
@@ -117,7 +120,7 @@ def packed(size):
 
 def named(first, count):
     """An accepted text of so many primitives, each with a name of its own that begins with these bytes."""
-    return b"".join(b"void antimatter %s%d 1 void 0 0\n" % (first, n) for n in range(count))
+    return b"".join(b"void mixfunc %s%d 4 a b c d 0 0\n" % (first, n) for n in range(count))
 
 
 def limits():

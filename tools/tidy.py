@@ -1,7 +1,7 @@
 #!/usr/bin/env python3
 """The tidy text of a scene text, written anew from its words: what the program tidy is compared with.
 
-    tools/tidy.py < TEXT        the tidy text, or the refusal
+    tools/tidy.py [--archive] < TEXT        the tidy text, or the refusal
 
 Whether a text is accepted is asked of scene.py; nothing else of it is used."""
 import re
@@ -50,8 +50,8 @@ def lines(text):
             yield [b"%d" % len(found), *found]
 
 
-def tidied(text):
-    answer = scene.listing(text)
+def tidied(archive, text):
+    answer = scene.listing(archive, text)
     if answer.startswith("refused="):
         return answer.encode()
     tidy = b"".join(b" ".join(words) + b"\n" for words in lines(text))
@@ -59,4 +59,4 @@ def tidied(text):
 
 
 if __name__ == "__main__":
-    sys.stdout.buffer.write(tidied(sys.stdin.buffer.read()))
+    sys.stdout.buffer.write(tidied(sys.argv[1:] == ["--archive"], sys.stdin.buffer.read()))

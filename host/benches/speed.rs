@@ -6,7 +6,7 @@
 #[path = "../reference/mod.rs"]
 mod reference;
 
-use kribbelsteen::{raw, MOST_BYTES, MOST_PRIMITIVES, MOST_REALS, RECORD};
+use kribbelsteen::{raw, Mode, MOST_BYTES, MOST_PRIMITIVES, MOST_REALS, RECORD};
 use reference::scene;
 use std::hint::black_box;
 use std::time::{Duration, Instant};
@@ -103,11 +103,11 @@ impl Tables {
     }
 
     fn read_by_library(&mut self, text: &[u8]) {
-        black_box(raw::read(black_box(text), &mut self.records, &mut self.reals));
+        black_box(raw::read(Mode::New.number(), black_box(text), &mut self.records, &mut self.reals));
     }
 
     fn read_by_reference(&mut self, text: &[u8]) {
-        let _ = black_box(scene::read(black_box(text), &mut self.records, &mut self.reals));
+        let _ = black_box(scene::read(false, black_box(text), &mut self.records, &mut self.reals));
     }
 }
 
@@ -156,7 +156,7 @@ fn measure(text: &[u8]) -> [f64; 3] {
 fn report(what: &str, text: &str) {
     let text = text.as_bytes();
     let mut tables = Tables::new();
-    let (reason, [_, primitives, reals]) = raw::read(text, &mut tables.records, &mut tables.reals);
+    let (reason, [_, primitives, reals]) = raw::read(Mode::New.number(), text, &mut tables.records, &mut tables.reals);
     assert_eq!(reason, 0, "{what} is accepted");
     let [ours, theirs, floor] = measure(text);
     let speed = |seconds: f64| text.len() as f64 / seconds / 1e6;

@@ -10,13 +10,14 @@ const ONLY_LEFT: usize = 1;
 const ONLY_RIGHT: usize = 2;
 const CHANGED: usize = 3;
 
-/// Reads two scenes, left and right. If one is refused the first of these is given with its side, and all tables are zero.
+/// Reads two scenes, left and right, in one mode. If one is refused the first of these is given with its side, and all tables are zero.
 pub fn read_both(
+    archive: bool,
     texts: [&[u8]; 2],
     records: &mut [Vec<u32>; 2],
     reals: &mut [Vec<f64>; 2],
 ) -> Result<[Counts; 2], (usize, Refused)> {
-    let mut read = |side: usize| scene::read(texts[side], &mut records[side], &mut reals[side]);
+    let mut read = |side: usize| scene::read(archive, texts[side], &mut records[side], &mut reals[side]);
     let refused = match (read(LEFT), read(RIGHT)) {
         (Ok(left), Ok(right)) => return Ok([left, right]),
         (Err(refused), _) => (LEFT, refused),

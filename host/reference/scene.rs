@@ -34,11 +34,11 @@ fn refuse<T>(reason: u32, place: usize) -> Result<T, Refused> {
     Err(Refused { reason, place })
 }
 
-/// Reads a scene into both tables, which are all zero after a refusal.
-pub fn read(text: &[u8], records: &mut [u32], reals: &mut [f64]) -> Result<Counts, Refused> {
+/// Reads a scene into both tables, which are all zero after a refusal. Only the archive reading accepts antimatter.
+pub fn read(archive: bool, text: &[u8], records: &mut [u32], reals: &mut [f64]) -> Result<Counts, Refused> {
     records.fill(0);
     reals.fill(0.0);
-    let answer = Reader::new(text, records, reals).scene();
+    let answer = Reader::new(archive, text, records, reals).scene();
     if answer.is_err() {
         records.fill(0);
         reals.fill(0.0);
@@ -286,6 +286,7 @@ pub fn numeral(word: &[u8]) -> Result<f64, u32> {
 // ---- the reader
 
 struct Reader<'t, 'm> {
+    archive: bool,
     text: &'t [u8],
     at: usize,
     records: &'m mut [u32],
@@ -299,8 +300,9 @@ struct Reader<'t, 'm> {
 }
 
 impl<'t, 'm> Reader<'t, 'm> {
-    fn new(text: &'t [u8], records: &'m mut [u32], reals: &'m mut [f64]) -> Self {
+    fn new(archive: bool, text: &'t [u8], records: &'m mut [u32], reals: &'m mut [f64]) -> Self {
         Reader {
+            archive,
             text,
             at: 0,
             record_room: MOST_RECORDS.min(records.len() / RECORD),
@@ -357,13 +359,15 @@ impl<'t, 'm> Reader<'t, 'm> {
 
     fn statement(&mut self) -> Result<(), Refused> {
         let modifier = self.modifier()?;
-        let kind = self.word()?;
-        let (name, mut record) = if kind.bytes == b"alias" {
+        let word = self.word()?;
+        let (name, mut record) = if word.bytes == b"alias" {
             let name = self.name()?;
             (name, self.target()?)
         } else {
-            let Some(kind) = Kind::from_word(kind.bytes) else {
-                return refuse(8, kind.place);
+            let kind = match Kind::from_word(word.bytes) {
+                None => return refuse(8, word.place),
+                Some(Antimatter) if !self.archive => return refuse(28, word.place),
+                Some(kind) => kind,
             };
             let name = self.name()?;
             (name, self.arguments(kind)?)

@@ -3,11 +3,11 @@
 //! proved to meet its contracts; this package only gives its numbers their Rust forms.
 //!
 //! ```
-//! use kribbelsteen::{Scene, RECORD};
+//! use kribbelsteen::{Mode, Scene, RECORD};
 //!
 //! let text = b"void plastic wall 0 0 5 .5 .5 .5 0 0\nwall sphere lamp 0 0 4 0 0 0 1\n";
 //! let (mut records, mut reals) = ([0; RECORD * 8], [0.0; 32]);
-//! let scene = Scene::read(text, &mut records, &mut reals)?;
+//! let scene = Scene::read(Mode::New, text, &mut records, &mut reals)?;
 //! assert_eq!(scene.counts().primitives, 2);
 //! let finish = scene.finish(2)?;
 //! assert_eq!(scene.name(finish.material.unwrap())?, b"wall");
@@ -17,9 +17,9 @@
 //! A scene that is not well-formed is refused with a reason and a place:
 //!
 //! ```
-//! use kribbelsteen::{Reason, Scene};
+//! use kribbelsteen::{Mode, Reason, Scene};
 //!
-//! let refusal = Scene::read(b"a sphere s 0 0 4 0 0 0 1", &mut [0; 10], &mut [0.0; 4]).unwrap_err();
+//! let refusal = Scene::read(Mode::New, b"a sphere s 0 0 4 0 0 0 1", &mut [0; 10], &mut [0.0; 4]).unwrap_err();
 //! assert_eq!(refusal.reason, Reason::NoModifier);
 //! assert_eq!(refusal.to_string(), "modifier not defined above (reason 7), at byte 0");
 //! ```
@@ -36,7 +36,7 @@ mod writing;
 
 pub use questions::{finish, name, Finish, Question};
 pub use rays::{fresnel, ring, root, sphere, Ray, Reflection, Ring, Sphere, Step};
-pub use reading::{read, Counts, Primitive, Reason, Refusal, Scene};
+pub use reading::{read, Counts, Mode, Primitive, Reason, Refusal, Scene};
 pub use saves::{compare, read_both, Line, Lines, SaveRefusal, Saves, Side, State};
 pub use types::Type;
 pub use words::{next_word, words, Word, Words};

@@ -6,6 +6,7 @@
 
 extern "C" {
     fn kribbelsteen_read(
+        mode: u32,
         text: *const u8,
         text_len: usize,
         records: *mut u32,
@@ -33,6 +34,7 @@ extern "C" {
     ) -> u32;
     fn kribbelsteen_next_word(text: *const u8, text_len: usize, at: usize, answer: *mut usize);
     fn kribbelsteen_read_both(
+        mode: u32,
         left: *const u8,
         left_len: usize,
         left_records: *mut u32,
@@ -63,6 +65,7 @@ extern "C" {
         line: *mut usize,
     ) -> u32;
     fn kribbelsteen_write(
+        mode: u32,
         text: *const u8,
         text_len: usize,
         records: *const u32,
@@ -79,12 +82,13 @@ extern "C" {
     fn kribbelsteen_root(x: f64) -> f64;
 }
 
-/// Reads a scene: the reason, 0 if accepted; then place, primitives and reals.
-pub fn read(text: &[u8], records: &mut [u32], reals: &mut [f64]) -> (u32, [usize; 3]) {
+/// Reads a scene in the mode of a number: the reason, 0 if accepted; then place, primitives and reals.
+pub fn read(mode: u32, text: &[u8], records: &mut [u32], reals: &mut [f64]) -> (u32, [usize; 3]) {
     let mut answer = [usize::MAX; 3];
     // SAFETY: each pointer and length is that of a slice, the answer has three entries, and the borrows keep what is written apart.
     let reason = unsafe {
         kribbelsteen_read(
+            mode,
             text.as_ptr(),
             text.len(),
             records.as_mut_ptr(),
@@ -132,9 +136,10 @@ pub fn next_word(text: &[u8], at: usize) -> [usize; 2] {
     answer
 }
 
-/// Reads two scenes, the left one first: the reason, 0 if both are accepted; then side and place of the refusal, and primitives and
+/// Reads two scenes in the mode of a number, the left one first: the reason, 0 if both are accepted; then side and place of the refusal, and primitives and
 /// reals of the left scene and of the right one.
 pub fn read_both(
+    mode: u32,
     left: &[u8],
     left_records: &mut [u32],
     left_reals: &mut [f64],
@@ -146,6 +151,7 @@ pub fn read_both(
     // SAFETY: each pointer and length is that of a slice, the answer has six entries, and the borrows keep what is written apart.
     let reason = unsafe {
         kribbelsteen_read_both(
+            mode,
             left.as_ptr(),
             left.len(),
             left_records.as_mut_ptr(),
@@ -195,12 +201,13 @@ pub fn next_line(
     }
 }
 
-/// Writes a scene out: the reason, 0 if it is written; then place and length.
-pub fn write(text: &[u8], records: &[u32], reals: &[f64], out: &mut [u8]) -> (u32, [usize; 2]) {
+/// Writes a scene out, read in the mode of a number: the reason, 0 if it is written; then place and length.
+pub fn write(mode: u32, text: &[u8], records: &[u32], reals: &[f64], out: &mut [u8]) -> (u32, [usize; 2]) {
     let mut answer = [usize::MAX; 2];
     // SAFETY: each pointer and length is that of a slice, the answer has two entries, and the borrows keep what is written apart.
     let reason = unsafe {
         kribbelsteen_write(
+            mode,
             text.as_ptr(),
             text.len(),
             records.as_ptr(),

@@ -4,6 +4,23 @@ use crate::{questions, raw, writing, Finish, Question, Type, Unwritten, Word, Wo
 use std::error::Error;
 use std::fmt;
 
+/// How a text is read. Every text that the new reading accepts has the same tables in the archive one.
+#[derive(Clone, Copy, Debug, PartialEq, Eq, Hash)]
+#[repr(u32)]
+pub enum Mode {
+    /// The reading of new scenes, which may have no antimatter.
+    New = 0,
+    /// The reading of old scenes, which accepts it.
+    Archive = 1,
+}
+
+impl Mode {
+    /// The mode's number.
+    pub fn number(self) -> u32 {
+        self as u32
+    }
+}
+
 /// Why a scene is refused.
 #[derive(Clone, Copy, Debug, PartialEq, Eq, Hash)]
 #[repr(u32)]
@@ -38,6 +55,8 @@ pub enum Reason {
     NumeralRange = 15,
     /// A real breaks a house rule.
     HouseRule = 16,
+    /// The type is antimatter, which the new reading refuses.
+    RetiredType = 28,
 }
 
 impl Reason {
@@ -46,7 +65,7 @@ impl Reason {
         self as u32
     }
 
-    /// The reason of a number; none outside 1 to 16, and none for 11, which is given no more.
+    /// The reason of a number; none outside 1 to 16 and 28, and none for 11, which is given no more.
     pub fn from_number(number: u32) -> Option<Reason> {
         Some(match number {
             1 => Reason::TextTooLong,
@@ -64,6 +83,7 @@ impl Reason {
             14 => Reason::BadNumeral,
             15 => Reason::NumeralRange,
             16 => Reason::HouseRule,
+            28 => Reason::RetiredType,
             _ => return None,
         })
     }
@@ -87,6 +107,7 @@ impl fmt::Display for Reason {
             Reason::BadNumeral => "not a numeral",
             Reason::NumeralRange => "coefficient or power too large",
             Reason::HouseRule => "real breaks a house rule",
+            Reason::RetiredType => "antimatter in a new scene",
         })
     }
 }
@@ -103,7 +124,7 @@ pub struct Refusal {
 impl Refusal {
     /// The refusal of a reader's number.
     pub(crate) fn from_number(number: u32, place: usize) -> Refusal {
-        Refusal { reason: Reason::from_number(number).expect("the library refuses scenes by 1 to 16"), place }
+        Refusal { reason: Reason::from_number(number).expect("the library refuses scenes by 1 to 16 and 28"), place }
     }
 }
 
@@ -124,19 +145,20 @@ pub struct Counts {
     pub reals: usize,
 }
 
-/// Reads a scene into both tables. There is room for a record in each ten numbers, at most 1,024 of them, and for at most 4,096
+/// Reads a scene, in a mode, into both tables. There is room for a record in each ten numbers, at most 1,024 of them, and for at most 4,096
 /// reals. Entries beyond those used become 0, and all of them if the scene is refused.
-pub fn read(text: &[u8], records: &mut [u32], reals: &mut [f64]) -> Result<Counts, Refusal> {
-    let (number, [place, primitives, reals]) = raw::read(text, records, reals);
+pub fn read(mode: Mode, text: &[u8], records: &mut [u32], reals: &mut [f64]) -> Result<Counts, Refusal> {
+    let (number, [place, primitives, reals]) = raw::read(mode.number(), text, records, reals);
     match number {
         0 => Ok(Counts { primitives, reals }),
         _ => Err(Refusal::from_number(number, place)),
     }
 }
 
-/// An accepted scene: its text and both tables.
+/// An accepted scene: the mode of its reading, its text and both tables.
 #[derive(Clone, Copy, Debug)]
 pub struct Scene<'s> {
+    pub(crate) mode: Mode,
     pub(crate) text: &'s [u8],
     pub(crate) records: &'s [u32],
     pub(crate) reals: &'s [f64],
@@ -144,14 +166,24 @@ pub struct Scene<'s> {
 
 impl<'s> Scene<'s> {
     /// Reads a scene, as [`read`] does, and keeps its parts together.
-    pub fn read(text: &'s [u8], records: &'s mut [u32], reals: &'s mut [f64]) -> Result<Scene<'s>, Refusal> {
-        let counts = read(text, records, reals)?;
-        Ok(Scene::of(text, records, reals, counts))
+    pub fn read(
+        mode: Mode,
+        text: &'s [u8],
+        records: &'s mut [u32],
+        reals: &'s mut [f64],
+    ) -> Result<Scene<'s>, Refusal> {
+        let counts = read(mode, text, records, reals)?;
+        Ok(Scene::of(mode, text, records, reals, counts))
     }
 
     /// The used parts of the tables of an accepted scene.
-    pub(crate) fn of(text: &'s [u8], records: &'s [u32], reals: &'s [f64], counts: Counts) -> Scene<'s> {
-        Scene { text, records: &records[..RECORD * counts.primitives], reals: &reals[..counts.reals] }
+    pub(crate) fn of(mode: Mode, text: &'s [u8], records: &'s [u32], reals: &'s [f64], counts: Counts) -> Scene<'s> {
+        Scene { mode, text, records: &records[..RECORD * counts.primitives], reals: &reals[..counts.reals] }
+    }
+
+    /// How the scene was read.
+    pub fn mode(&self) -> Mode {
+        self.mode
     }
 
     /// How much the scene holds.
@@ -174,9 +206,9 @@ impl<'s> Scene<'s> {
         questions::finish(self.records, self.counts().primitives, number, allowance)
     }
 
-    /// Writes the scene's tidy text into a lent output, as [`write`](crate::write) does.
+    /// Writes the scene's tidy text into a lent output, as [`write`](crate::write) does in the mode of its reading.
     pub fn write<'o>(&self, out: &'o mut [u8]) -> Result<&'o [u8], Unwritten> {
-        writing::write(self.text, self.records, self.reals, out)
+        writing::write(self.mode, self.text, self.records, self.reals, out)
     }
 
     /// The primitive of a number, from 1.
@@ -187,7 +219,7 @@ impl<'s> Scene<'s> {
 
     /// All primitives, in the text's order.
     pub fn primitives(&self) -> impl Iterator<Item = Primitive<'s>> {
-        let Scene { text, records, reals } = *self;
+        let Scene { text, records, reals, .. } = *self;
         let numbered = records.chunks_exact(RECORD).zip(1..);
         numbered.map(move |(record, number)| Primitive { text, reals, record, number })
     }

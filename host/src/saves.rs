@@ -1,6 +1,6 @@
 //! Two saves of a scene, read and compared by name.
 
-use crate::{raw, Counts, Refusal, Scene};
+use crate::{raw, Counts, Mode, Refusal, Scene};
 use std::error::Error;
 use std::fmt;
 
@@ -54,8 +54,9 @@ impl Error for SaveRefusal {
     }
 }
 
-/// Reads two scenes, the left one first, each as [`read`](crate::read) does. If one is refused the tables of both become 0.
+/// Reads two scenes in one mode, the left one first, each as [`read`](crate::read) does. If one is refused the tables of both become 0.
 pub fn read_both(
+    mode: Mode,
     left: &[u8],
     left_records: &mut [u32],
     left_reals: &mut [f64],
@@ -64,7 +65,7 @@ pub fn read_both(
     right_reals: &mut [f64],
 ) -> Result<[Counts; 2], SaveRefusal> {
     let (number, [side, place, m, j, n, k]) =
-        raw::read_both(left, left_records, left_reals, right, right_records, right_reals);
+        raw::read_both(mode.number(), left, left_records, left_reals, right, right_records, right_reals);
     match number {
         0 => Ok([Counts { primitives: m, reals: j }, Counts { primitives: n, reals: k }]),
         _ => Err(SaveRefusal { side: Side::from_number(side), refusal: Refusal::from_number(number, place) }),
@@ -83,6 +84,7 @@ pub struct Saves<'s> {
 impl<'s> Saves<'s> {
     /// Reads two scenes, as [`read_both`] does, and keeps their parts together.
     pub fn read(
+        mode: Mode,
         left: &'s [u8],
         left_records: &'s mut [u32],
         left_reals: &'s mut [f64],
@@ -90,10 +92,10 @@ impl<'s> Saves<'s> {
         right_records: &'s mut [u32],
         right_reals: &'s mut [f64],
     ) -> Result<Saves<'s>, SaveRefusal> {
-        let [m, n] = read_both(left, left_records, left_reals, right, right_records, right_reals)?;
+        let [m, n] = read_both(mode, left, left_records, left_reals, right, right_records, right_reals)?;
         Ok(Saves {
-            left: Scene::of(left, left_records, left_reals, m),
-            right: Scene::of(right, right_records, right_reals, n),
+            left: Scene::of(mode, left, left_records, left_reals, m),
+            right: Scene::of(mode, right, right_records, right_reals, n),
         })
     }
 
@@ -155,12 +157,12 @@ pub struct Line<'s> {
 /// definitions. A key is the same if type, strings, bits of the reals, and the keys of alias target and modifier are.
 ///
 /// ```
-/// use kribbelsteen::{compare, Scene, State, RECORD};
+/// use kribbelsteen::{compare, Mode, Scene, State, RECORD};
 ///
 /// let (mut records, mut reals) = ([[0; RECORD]; 2], [[0.0; 3]; 2]);
 /// let ([a, b], [x, y]) = (&mut records, &mut reals);
-/// let left = Scene::read(b"void light lamp 0 0 3 1 1 1", a, x)?;
-/// let right = Scene::read(b"void light lamp 0 0 3 2 2 2", b, y)?;
+/// let left = Scene::read(Mode::New, b"void light lamp 0 0 3 1 1 1", a, x)?;
+/// let right = Scene::read(Mode::New, b"void light lamp 0 0 3 2 2 2", b, y)?;
 /// let lines: Vec<_> = compare(left, right).map(|line| (line.name, line.nth, line.state)).collect();
 /// assert_eq!(lines, [(&b"lamp"[..], 1, State::Changed)]);
 /// # Ok::<(), Box<dyn std::error::Error>>(())

@@ -1,13 +1,13 @@
 //! Scenes written out, tidy.
 
-use crate::{raw, Refusal};
+use crate::{raw, Mode, Refusal};
 use std::error::Error;
 use std::fmt;
 
 /// Why a scene is not written. The output is all zero then.
 #[derive(Clone, Copy, Debug, PartialEq, Eq, Hash)]
 pub enum Unwritten {
-    /// 1 to 16: the text, read into tables of these sizes, is refused.
+    /// 1 to 16 or 28: the text, read into tables of these sizes, is refused.
     Refused(Refusal),
     /// 22: the tables are not those that reading the text gives.
     TablesDiffer,
@@ -39,20 +39,26 @@ impl fmt::Display for Unwritten {
 impl Error for Unwritten {}
 
 /// Writes a scene's tidy text into a lent output, and gives that part of it; the rest becomes 0. The tables have to be what reading
-/// the text into tables of these lengths gives, as the used parts of longer ones are. An output one byte longer than the text is
+/// the text, in the mode, into tables of these lengths gives, as the used parts of longer ones are. An output one byte longer than the text is
 /// enough.
 ///
 /// ```
-/// use kribbelsteen::{Scene, RECORD};
+/// use kribbelsteen::{Mode, Scene, RECORD};
 ///
 /// let text = b"# a lamp\nvoid light   lamp 0 0 03 1 1 1";
 /// let (mut records, mut reals, mut out) = ([0; RECORD], [0.0; 3], [0; 64]);
-/// let scene = Scene::read(text, &mut records, &mut reals)?;
+/// let scene = Scene::read(Mode::New, text, &mut records, &mut reals)?;
 /// assert_eq!(scene.write(&mut out)?, b"void light lamp\n0\n0\n3 1 1 1\n");
 /// # Ok::<(), Box<dyn std::error::Error>>(())
 /// ```
-pub fn write<'o>(text: &[u8], records: &[u32], reals: &[f64], out: &'o mut [u8]) -> Result<&'o [u8], Unwritten> {
-    let (number, [place, len]) = raw::write(text, records, reals, out);
+pub fn write<'o>(
+    mode: Mode,
+    text: &[u8],
+    records: &[u32],
+    reals: &[f64],
+    out: &'o mut [u8],
+) -> Result<&'o [u8], Unwritten> {
+    let (number, [place, len]) = raw::write(mode.number(), text, records, reals, out);
     match number {
         0 => Ok(&out[..len]),
         22 => Err(Unwritten::TablesDiffer),

@@ -18,6 +18,14 @@ primitives=0 reals=0
 name 9: 17
 name, 9 stated: 18
 finish 3, no links: 17 0 0
+refused=28 place=5
+refused=28 place=5
+primitives=2 reals=0
+no=1 mod=0 type=24 name=hole finish=0 links=0
+no=2 mod=1 type=24 name=slot finish=1 links=1
+name 9: 17
+name, 9 stated: 18
+finish 3, no links: 17 0 0
 name=bulb nth=1 state=right
 name=lamp nth=1 state=changed
 name=trim nth=1 state=left

@@ -70,7 +70,7 @@ impl Tally {
 
 /// What a reading answers: 0 for accepted, or a reason. 11 is given no more.
 fn reasons() -> impl Iterator<Item = u32> {
-    (0..=16).filter(|reason| *reason != 11)
+    (0..=16).filter(|reason| *reason != 11).chain([28])
 }
 
 /// A lent table with entries before and behind it that must stay as they are.
@@ -108,11 +108,16 @@ struct Read {
     answer: [usize; 3],
 }
 
-fn expected_read(text: &[u8], records: &mut [u32], reals: &mut [f64]) -> Read {
-    match scene::read(text, records, reals) {
+fn expected_read(archive: bool, text: &[u8], records: &mut [u32], reals: &mut [f64]) -> Read {
+    match scene::read(archive, text, records, reals) {
         Ok(counts) => Read { reason: 0, answer: [0, counts.primitives, counts.reals] },
         Err(refused) => Read { reason: refused.reason, answer: [refused.place, 0, 0] },
     }
+}
+
+fn shown(case: &scenes::Case) -> String {
+    let scenes::Case { mode, text, records, reals } = case;
+    format!("mode {mode}, text {:?}, lent {records} and {reals}", String::from_utf8_lossy(text))
 }
 
 /// Reads a scene both ways, compares all that comes of it, and gives the answer and the table.
@@ -121,14 +126,14 @@ fn compare_reading(case: &scenes::Case) -> (Read, Vec<u32>) {
     let mut records = Lent::new(case.records, record_filling);
     let mut reals = Lent::new(case.reals, real_filling);
     let text = case.text.clone();
-    let (reason, answer) = raw::read(&text, records.table(), reals.table());
+    let (reason, answer) = raw::read(case.mode, &text, records.table(), reals.table());
     let ours = Read { reason, answer };
 
     let mut expected_records = vec![1; case.records];
     let mut expected_reals = vec![1.0; case.reals];
-    let expected = expected_read(&case.text, &mut expected_records, &mut expected_reals);
+    let expected = expected_read(case.is_archive(), &case.text, &mut expected_records, &mut expected_reals);
 
-    let shown = || format!("text {:?}, lent {} and {}", String::from_utf8_lossy(&case.text), case.records, case.reals);
+    let shown = || shown(case);
     assert_eq!(ours, expected, "{}", shown());
     assert!(records.table() == expected_records, "records of {}", shown());
     assert!(bits(reals.table()).eq(bits(&expected_reals)), "reals of {}", shown());
@@ -209,6 +214,10 @@ fn scenes_are_read_alike() {
         let case = scenes::case(&mut random);
         let (answer, records) = compare_reading(&case);
         read.add(answer.reason);
+        if !case.is_archive() && answer.reason == 0 {
+            let archive = compare_reading(&scenes::Case { mode: 1, text: case.text.clone(), ..case });
+            assert!(archive.0 == answer && archive.1 == records, "the archive reading of {}", shown(&case));
+        }
         let count = answer.answer[1];
         asked.ask_all(&case.text, &records, count);
         damaged_tables(&mut random, &mut damaged, &case.text, &records[..10 * count]);
@@ -245,7 +254,7 @@ fn full(primitives: usize) -> Vec<u8> {
 
 /// A text with the largest tables that a reading can use.
 fn with_most(text: Vec<u8>) -> scenes::Case {
-    scenes::Case { text, records: 10_240, reals: 4_096 }
+    scenes::Case { mode: 0, text, records: 10_240, reals: 4_096 }
 }
 
 #[test]
@@ -267,18 +276,18 @@ fn limits_are_met_alike() {
     let text = b"void glow g 0 0 4 1 1 1 0\nvoid light l 0 0 3 1 2 3\ng sphere s 0 0 4 0 0 0 1\n";
     for records in 0..=45 {
         for reals in 0..=15 {
-            compare_reading(&scenes::Case { text: text.to_vec(), records, reals });
+            compare_reading(&scenes::Case { mode: 0, text: text.to_vec(), records, reals });
         }
     }
     // Every beginning of a scene, and every byte in it changed
     for end in 0..=text.len() {
-        compare_reading(&scenes::Case { text: text[..end].to_vec(), records: 30, reals: 11 });
+        compare_reading(&scenes::Case { mode: 0, text: text[..end].to_vec(), records: 30, reals: 11 });
     }
     for at in 0..text.len() {
         for byte in 0..=255 {
             let mut text = text.to_vec();
             text[at] = byte;
-            compare_reading(&scenes::Case { text, records: 30, reals: 11 });
+            compare_reading(&scenes::Case { mode: 0, text, records: 30, reals: 11 });
         }
     }
 }
@@ -298,21 +307,17 @@ fn compare_reading_both(cases: &[scenes::Case; 2]) -> BothRead {
     let [left, right] = cases;
     let [mut a, mut b] = [left, right].map(|case| Lent::new(case.records, record_filling));
     let [mut x, mut y] = [left, right].map(|case| Lent::new(case.reals, real_filling));
-    let (reason, answer) = raw::read_both(&left.text, a.table(), x.table(), &right.text, b.table(), y.table());
+    let (reason, answer) =
+        raw::read_both(left.mode, &left.text, a.table(), x.table(), &right.text, b.table(), y.table());
 
     let mut records = [left, right].map(|case| vec![1; case.records]);
     let mut reals = [left, right].map(|case| vec![1.0; case.reals]);
-    let expected = match saves::read_both([&left.text, &right.text], &mut records, &mut reals) {
+    let expected = match saves::read_both(left.is_archive(), [&left.text, &right.text], &mut records, &mut reals) {
         Ok([m, n]) => (0, [0, 0, m.primitives, m.reals, n.primitives, n.reals]),
         Err((side, refused)) => (refused.reason, [side, refused.place, 0, 0, 0, 0]),
     };
 
-    let shown = || {
-        let lent = |case: &scenes::Case| {
-            format!("text {:?}, lent {} and {}", String::from_utf8_lossy(&case.text), case.records, case.reals)
-        };
-        cases.each_ref().map(lent)
-    };
+    let shown = || cases.each_ref().map(shown);
     assert_eq!((reason, answer), expected, "{:?}", shown());
     assert!([a.table(), b.table()].into_iter().eq(&records), "records of {:?}", shown());
     let ours = [x.table(), y.table()];
@@ -424,17 +429,22 @@ fn large_saves_are_compared_alike() {
 // ---- scenes written out
 
 /// Writes a scene out both ways, compares all that comes of it, and gives the reason and the tidy text.
-fn compare_writing(text: &[u8], records: &[u32], reals: &[f64], room: usize) -> (u32, Vec<u8>) {
+fn compare_writing(mode: u32, text: &[u8], records: &[u32], reals: &[f64], room: usize) -> (u32, Vec<u8>) {
     let filling = 0xa5;
     let mut out = Lent::new(room, filling);
     let (lent_records, lent_reals) = (records.to_vec(), reals.to_vec());
-    let ours = raw::write(text, &lent_records, &lent_reals, out.table());
-    let (expected, tidy) = match tidy::write(text, records, reals, room) {
+    let ours = raw::write(mode, text, &lent_records, &lent_reals, out.table());
+    let (expected, tidy) = match tidy::write(mode == 1, text, records, reals, room) {
         Ok(tidy) => ((0, [0, tidy.len()]), tidy),
         Err(refused) => ((refused.reason, [refused.place, 0]), Vec::new()),
     };
     let shown = || {
-        format!("{room} bytes for {:?}, tables of {} and {}", String::from_utf8_lossy(text), records.len(), reals.len())
+        format!(
+            "mode {mode}, {room} bytes for {:?}, tables of {} and {}",
+            String::from_utf8_lossy(text),
+            records.len(),
+            reals.len()
+        )
     };
     assert_eq!(ours, expected, "{}", shown());
     let mut output = tidy.clone();
@@ -458,14 +468,14 @@ fn tampered(random: &mut Random, records: &[u32], reals: &[f64]) -> (Vec<u32>, V
 }
 
 /// The tidy text of a scene reads back as the same table but for places, and is its own tidy text.
-fn read_back(tidy: &[u8], records: &[u32], reals: &[f64]) {
+fn read_back(mode: u32, tidy: &[u8], records: &[u32], reals: &[f64]) {
     let (mut again, mut doubles) = (vec![1; records.len()], vec![1.0; reals.len()]);
-    assert_eq!(raw::read(tidy, &mut again, &mut doubles).0, 0, "{:?}", String::from_utf8_lossy(tidy));
+    assert_eq!(raw::read(mode, tidy, &mut again, &mut doubles).0, 0, "{:?}", String::from_utf8_lossy(tidy));
     let but_places = |records: &[u32]| -> Vec<u32> {
         records.iter().enumerate().map(|(at, &number)| if matches!(at % 10, 3 | 5) { 0 } else { number }).collect()
     };
     assert!(but_places(&again) == but_places(records) && bits(&doubles).eq(bits(reals)));
-    assert_eq!(compare_writing(tidy, &again, &doubles, tidy.len()), (0, tidy.to_vec()));
+    assert_eq!(compare_writing(mode, tidy, &again, &doubles, tidy.len()), (0, tidy.to_vec()));
 }
 
 #[test]
@@ -475,24 +485,24 @@ fn scenes_are_written_alike() {
     for _ in 0..scene_count() / 4 {
         let case = scenes::case(&mut random);
         let (mut records, mut reals) = (vec![1; case.records], vec![1.0; case.reals]);
-        let read = expected_read(&case.text, &mut records, &mut reals);
+        let read = expected_read(case.is_archive(), &case.text, &mut records, &mut reals);
         let enough = case.text.len() + 1 + random.below(40);
-        let (reason, tidy) = compare_writing(&case.text, &records, &reals, enough);
+        let (reason, tidy) = compare_writing(case.mode, &case.text, &records, &reals, enough);
         tally.add(reason);
         assert!(reason == read.reason, "an output one byte longer than the text is enough");
         if reason == 0 {
             let [_, primitives, used] = read.answer;
             let whole = (&records[..10 * primitives], &reals[..used]);
-            assert_eq!(compare_writing(&case.text, whole.0, whole.1, tidy.len()), (0, tidy.clone()));
+            assert_eq!(compare_writing(case.mode, &case.text, whole.0, whole.1, tidy.len()), (0, tidy.clone()));
             if tidy.len() <= scene::MOST_BYTES {
-                read_back(&tidy, &records, &reals);
+                read_back(case.mode, &tidy, &records, &reals);
             }
             for room in [tidy.len().saturating_sub(1), random.below(tidy.len() + 1), 0] {
-                tally.add(compare_writing(&case.text, &records, &reals, room).0);
+                tally.add(compare_writing(case.mode, &case.text, &records, &reals, room).0);
             }
         }
         let (records, reals) = tampered(&mut random, &records, &reals);
-        tally.add(compare_writing(&case.text, &records, &reals, enough).0);
+        tally.add(compare_writing(case.mode, &case.text, &records, &reals, enough).0);
     }
     tally.report(reasons().chain([22, 23]), 10_000);
 }
@@ -504,9 +514,9 @@ fn the_longest_tidy_text_is_written_alike() {
     let text = format!("void mixfunc m {strings}{} 0 0", " s".repeat(strings)).into_bytes();
     assert_eq!(text.len(), scene::MOST_BYTES);
     let (mut records, mut reals) = ([1; 10], [1.0; 1]);
-    assert_eq!(raw::read(&text, &mut records, &mut reals).0, 0);
+    assert_eq!(raw::read(0, &text, &mut records, &mut reals).0, 0);
     for (room, expected) in [(scene::MOST_BYTES, 23), (scene::MOST_BYTES + 1, 0), (scene::MOST_BYTES + 2, 0)] {
-        assert_eq!(compare_writing(&text, &records, &reals, room).0, expected);
+        assert_eq!(compare_writing(0, &text, &records, &reals, room).0, expected);
     }
 }
 
@@ -549,7 +559,7 @@ fn numerals_are_read_alike() {
         let word = numerals::any(&mut random);
         let text = format!("void mixfunc m 4 a b c d 0 1 {word}");
         let (mut records, mut reals) = ([7; 10], [7.0]);
-        let (reason, _) = raw::read(text.as_bytes(), &mut records, &mut reals);
+        let (reason, _) = raw::read(0, text.as_bytes(), &mut records, &mut reals);
         match scene::numeral(word.as_bytes()) {
             Ok(value) => {
                 assert_eq!((reason, reals[0].to_bits()), (0, value.to_bits()), "{word}");

@@ -11,10 +11,10 @@
 static uint32_t records[ROOM * KRIBBELSTEEN_RECORD];
 static double reals[32];
 
-static void print_scene(const char *scene) {
+static void print_scene(uint32_t mode, const char *scene) {
     const uint8_t *text = (const uint8_t *)scene;
     size_t len = strlen(scene), answer[3], name[2], finish[2], number;
-    uint32_t reason = kribbelsteen_read(text, len, records, ROOM * KRIBBELSTEEN_RECORD, reals, 32, answer);
+    uint32_t reason = kribbelsteen_read(mode, text, len, records, ROOM * KRIBBELSTEEN_RECORD, reals, 32, answer);
     if (reason != KRIBBELSTEEN_ACCEPTED) {
         printf("refused=%u place=%zu\n", (unsigned)reason, answer[0]);
         return;
@@ -40,8 +40,8 @@ static void print_changes(const char *left, const char *right) {
     static const char *const states[] = {"", "left", "right", "changed"};
     const uint8_t *texts[2] = {(const uint8_t *)left, (const uint8_t *)right};
     size_t left_len = strlen(left), right_len = strlen(right), answer[6], line[4] = {0, 0, 0, 0}, name[2];
-    uint32_t reason = kribbelsteen_read_both(texts[0], left_len, records, ROOM * KRIBBELSTEEN_RECORD, reals, 32, texts[1],
-                                             right_len, later_records, ROOM * KRIBBELSTEEN_RECORD, later_reals, 32, answer);
+    uint32_t reason = kribbelsteen_read_both(KRIBBELSTEEN_NEW, texts[0], left_len, records, ROOM * KRIBBELSTEEN_RECORD, reals, 32,
+                                             texts[1], right_len, later_records, ROOM * KRIBBELSTEEN_RECORD, later_reals, 32, answer);
     if (reason != KRIBBELSTEEN_ACCEPTED) {
         printf("scene=%s refused=%u place=%zu\n", answer[0] == KRIBBELSTEEN_LEFT ? "left" : "right", (unsigned)reason, answer[1]);
         return;
@@ -61,11 +61,11 @@ static void print_tidy(const char *scene, size_t room) {
     const uint8_t *text = (const uint8_t *)scene;
     size_t len = strlen(scene), counts[3], answer[2];
     uint32_t reason;
-    kribbelsteen_read(text, len, records, ROOM * KRIBBELSTEEN_RECORD, reals, 32, counts);
-    reason = kribbelsteen_write(text, len, records, ROOM * KRIBBELSTEEN_RECORD, reals, 32, out, room, answer);
+    kribbelsteen_read(KRIBBELSTEEN_NEW, text, len, records, ROOM * KRIBBELSTEEN_RECORD, reals, 32, counts);
+    reason = kribbelsteen_write(KRIBBELSTEEN_NEW, text, len, records, ROOM * KRIBBELSTEEN_RECORD, reals, 32, out, room, answer);
     printf("written=%u place=%zu length=%zu\n%.*s", (unsigned)reason, answer[0], answer[1], (int)answer[1], (const char *)out);
     reals[31] = -0.0;
-    reason = kribbelsteen_write(text, len, records, ROOM * KRIBBELSTEEN_RECORD, reals, 32, out, room, answer);
+    reason = kribbelsteen_write(KRIBBELSTEEN_NEW, text, len, records, ROOM * KRIBBELSTEEN_RECORD, reals, 32, out, room, answer);
     printf("written=%u place=%zu length=%zu\n", (unsigned)reason, answer[0], answer[1]);
 }
 
@@ -116,10 +116,14 @@ int main(void) {
     const char *later = "void plastic wall 0 0 5 .5 .5 .5 0 0\n"
                         "wall sphere lamp 0 0 4 0 0 0 1\n"
                         "void light bulb 0 0 3 1 1 1\n";
-    print_scene(sample);
-    print_scene("a sphere s 0 0 4 0 0 0 1");
-    print_scene("void sphere s 0 0 4 0 0 0 0");
-    print_scene("");
+    const char *old = "void antimatter hole 1 void 0 0\nhole alias slot hole\n";
+    print_scene(KRIBBELSTEEN_NEW, sample);
+    print_scene(KRIBBELSTEEN_NEW, "a sphere s 0 0 4 0 0 0 1");
+    print_scene(KRIBBELSTEEN_NEW, "void sphere s 0 0 4 0 0 0 0");
+    print_scene(KRIBBELSTEEN_NEW, "");
+    print_scene(KRIBBELSTEEN_NEW, old);
+    print_scene(2, old);
+    print_scene(KRIBBELSTEEN_ARCHIVE, old);
     print_changes(sample, later);
     print_changes(later, sample);
     print_changes(sample, "!");

@@ -12,7 +12,7 @@ const SAMPLE: &[u8] = b"void plastic wall 0 0 5 .5 .5 .5 0 0\n\
 #[test]
 fn a_scene_shows_its_primitives() {
     let (mut records, mut reals) = ([9; RECORD * 6], [9.0; 20]);
-    let scene = Scene::read(SAMPLE, &mut records, &mut reals).expect("well-formed");
+    let scene = Scene::read(Mode::New, SAMPLE, &mut records, &mut reals).expect("well-formed");
     assert_eq!(scene.counts(), Counts { primitives: 5, reals: 17 });
     let shown: Vec<_> = scene
         .primitives()
@@ -40,7 +40,7 @@ fn a_surface_hides_no_paint() {
     let text =
         b"void plastic wall 0 0 5 .5 .5 .5 0 0\nvoid sphere wall 0 0 4 0 0 0 1\nwall sphere knob 0 0 4 0 0 0 1\n";
     let (mut records, mut reals) = ([0; RECORD * 3], [0.0; 13]);
-    let scene = Scene::read(text, &mut records, &mut reals).expect("well-formed");
+    let scene = Scene::read(Mode::New, text, &mut records, &mut reals).expect("well-formed");
     let links: Vec<_> = scene.primitives().map(|p| (p.modifier(), p.next_of_name())).collect();
     assert_eq!(links, [(None, None), (None, None), (Some(1), None)]);
     assert_eq!(scene.finish(3), Ok(Finish { material: Some(1), links: 1 }));
@@ -49,7 +49,7 @@ fn a_surface_hides_no_paint() {
 #[test]
 fn questions_are_answered_or_refused() {
     let (mut records, mut reals) = ([0; RECORD * 5], [0.0; 17]);
-    let scene = Scene::read(SAMPLE, &mut records, &mut reals).expect("well-formed");
+    let scene = Scene::read(Mode::New, SAMPLE, &mut records, &mut reals).expect("well-formed");
     assert_eq!(scene.name(3), Ok(&b"lamp"[..]));
     assert_eq!(scene.name(6), Err(Question::NoSuchPrimitive));
     assert_eq!(scene.finish(5), Ok(Finish { material: Some(2), links: 2 }));
@@ -63,7 +63,8 @@ fn questions_are_answered_or_refused() {
 #[test]
 fn a_refusal_says_reason_and_place() {
     let (mut records, mut reals) = ([9; 25], [9.0; 9]);
-    let refusal = read(b"void sphere s 0 0 4 0 0 0 0", &mut records, &mut reals).expect_err("the radius is 0");
+    let refusal =
+        read(Mode::New, b"void sphere s 0 0 4 0 0 0 0", &mut records, &mut reals).expect_err("the radius is 0");
     assert_eq!(refusal, Refusal { reason: Reason::HouseRule, place: 26 });
     assert_eq!((records, reals), ([0; 25], [0.0; 9]));
     let error: Box<dyn std::error::Error> = refusal.into();
@@ -71,8 +72,29 @@ fn a_refusal_says_reason_and_place() {
 }
 
 #[test]
+fn the_archive_reading_accepts_antimatter() {
+    let text = b"void antimatter hole 1 void 0 0\nvoid alias slot hole\n";
+    let (mut records, mut reals) = ([9; RECORD * 2], [9.0; 1]);
+    let refusal = read(Mode::New, text, &mut records, &mut reals).expect_err("a new scene has none");
+    assert_eq!(refusal, Refusal { reason: Reason::RetiredType, place: 5 });
+    assert_eq!(refusal.to_string(), "antimatter in a new scene (reason 28), at byte 5");
+    let scene = Scene::read(Mode::Archive, text, &mut records, &mut reals).expect("an old scene may have it");
+    assert_eq!(scene.mode(), Mode::Archive);
+    assert!(scene.primitives().all(|p| p.kind() == Type::Antimatter));
+    let mut out = [0; 64];
+    assert_eq!(scene.write(&mut out), Ok(&b"void antimatter hole\n1 void\n0\n0\nvoid alias slot hole\n"[..]));
+    assert_eq!(write(Mode::New, text, &records, &reals[..0], &mut out), Err(Unwritten::Refused(refusal)));
+    let ((mut a, mut x), (mut b, mut y)) = (([9; RECORD], [9.0; 3]), ([9; RECORD * 2], [9.0; 1]));
+    let lamp = b"void light lamp 0 0 3 1 1 1";
+    let refused = read_both(Mode::New, lamp, &mut a, &mut x, text, &mut b, &mut y);
+    assert_eq!(refused, Err(SaveRefusal { side: Side::Right, refusal }));
+    let saves = Saves::read(Mode::Archive, lamp, &mut a, &mut x, text, &mut b, &mut y).expect("both are read alike");
+    assert_eq!(saves.lines().count(), 3);
+}
+
+#[test]
 fn numbers_and_reasons_agree() {
-    for number in (1..=16).filter(|number| *number != 11) {
+    for number in (1..=16).filter(|number| *number != 11).chain([28]) {
         assert_eq!(Reason::from_number(number).map(Reason::number), Some(number));
     }
     assert_eq!([0, 11, 17].map(Reason::from_number), [None; 3]);
@@ -95,7 +117,7 @@ const LATER: &[u8] = b"void plastic wall 0 0 5 .5 .5 .6 0 0\n\
 #[test]
 fn saves_are_compared_by_name() {
     let ((mut a, mut x), (mut b, mut y)) = (([9; RECORD * 6], [9.0; 20]), ([9; RECORD * 7], [9.0; 21]));
-    let saves = Saves::read(SAMPLE, &mut a, &mut x, LATER, &mut b, &mut y).expect("both are well-formed");
+    let saves = Saves::read(Mode::New, SAMPLE, &mut a, &mut x, LATER, &mut b, &mut y).expect("both are well-formed");
     assert_eq!(saves.left.counts(), Counts { primitives: 5, reals: 17 });
     assert_eq!(saves.right.counts(), Counts { primitives: 5, reals: 16 });
     let mut lines = saves.lines();
@@ -114,13 +136,13 @@ fn saves_are_compared_by_name() {
 fn a_refused_save_is_named() {
     let ((mut a, mut x), (mut b, mut y)) = (([9; 60], [9.0; 20]), ([9; 70], [9.0; 21]));
     let refused = b"a sphere s 0 0 4 0 0 0 1";
-    let refusal =
-        read_both(SAMPLE, &mut a, &mut x, refused, &mut b, &mut y).expect_err("the right one has no modifier");
+    let refusal = read_both(Mode::New, SAMPLE, &mut a, &mut x, refused, &mut b, &mut y)
+        .expect_err("the right one has no modifier");
     assert_eq!(refusal.side, Side::Right);
     assert_eq!(refusal.refusal, Refusal { reason: Reason::NoModifier, place: 0 });
     assert_eq!(((a, x), (b, y)), (([0; 60], [0.0; 20]), ([0; 70], [0.0; 21])));
     assert_eq!(refusal.to_string(), "right scene: modifier not defined above (reason 7), at byte 0");
-    let refusal = read_both(b"!", &mut a, &mut x, refused, &mut b, &mut y).expect_err("both are refused");
+    let refusal = read_both(Mode::New, b"!", &mut a, &mut x, refused, &mut b, &mut y).expect_err("both are refused");
     assert_eq!((refusal.side, refusal.refusal.reason), (Side::Left, Reason::Command));
 }
 
@@ -129,17 +151,17 @@ fn a_scene_is_written_out() {
     let text = b"  void light # 0 0 03 1. 1e0 +1 # the name was no comment\nvoid alias trim #";
     let tidy = b"void light #\n0\n0\n3 1. 1e0 +1\nvoid alias trim #\n";
     let (mut records, mut reals, mut out) = ([9; 35], [9.0; 5], [9; 80]);
-    let scene = Scene::read(text, &mut records, &mut reals).expect("well-formed");
+    let scene = Scene::read(Mode::New, text, &mut records, &mut reals).expect("well-formed");
     assert_eq!(scene.write(&mut out), Ok(&tidy[..]));
     assert!(out[tidy.len()..].iter().all(|&byte| byte == 0));
-    assert_eq!(write(text, &records, &reals, &mut out), Ok(&tidy[..]));
-    assert_eq!(write(text, &records, &reals, &mut out[..tidy.len()]), Ok(&tidy[..]));
-    assert_eq!(write(text, &records, &reals, &mut out[..tidy.len() - 1]), Err(Unwritten::OutputTooSmall));
+    assert_eq!(write(Mode::New, text, &records, &reals, &mut out), Ok(&tidy[..]));
+    assert_eq!(write(Mode::New, text, &records, &reals, &mut out[..tidy.len()]), Ok(&tidy[..]));
+    assert_eq!(write(Mode::New, text, &records, &reals, &mut out[..tidy.len() - 1]), Err(Unwritten::OutputTooSmall));
     reals[4] = f64::NAN;
-    assert_eq!(write(text, &records, &reals, &mut out), Err(Unwritten::TablesDiffer));
+    assert_eq!(write(Mode::New, text, &records, &reals, &mut out), Err(Unwritten::TablesDiffer));
     assert_eq!(out, [0; 80]);
     let refusal = Refusal { reason: Reason::NoRealRoom, place: 19 };
-    assert_eq!(write(text, &records, &reals[..2], &mut out), Err(Unwritten::Refused(refusal)));
+    assert_eq!(write(Mode::New, text, &records, &reals[..2], &mut out), Err(Unwritten::Refused(refusal)));
     assert_eq!(Unwritten::Refused(refusal).to_string(), "no room for the reals (reason 13), at byte 19");
     let numbers =
         [Unwritten::Refused(refusal), Unwritten::TablesDiffer, Unwritten::OutputTooSmall].map(Unwritten::number);

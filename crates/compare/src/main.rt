@@ -1,8 +1,9 @@
-// Compares the saves that the two arguments name.
+// Compares the saves that two arguments name.
 fn main() {
-    if (os::arg_count() != 3) | input::has_option() {
-        output::print(b"usage: compare LEFT RIGHT\n");
+    let left = input::first();
+    if (os::arg_count() != left + 2) | input::has_unknown_option() {
+        output::print(b"usage: compare [--archive] LEFT RIGHT\n");
         return;
     }
-    saves::compare_arguments(1, 2);
+    saves::compare_arguments(input::mode(), left, left + 1);
 }

@@ -15,16 +15,16 @@ fn print_names(left: usize, right: usize) -> bool {
 }
 
 fn main() {
-    let pairs = input::count() / 2;
-    let mut pair = 0;
-    while pair < pairs {
-        let left = 2 * pair + 1;
+    let mode = input::mode();
+    let last = input::end() - 1;
+    let mut left = input::first();
+    while left < last {
         if !print_names(left, left + 1) {
             return;
         }
-        if !saves::compare_arguments(left, left + 1) {
+        if !saves::compare_arguments(mode, left, left + 1) {
             return;
         }
-        pair += 1;
+        left += 2;
     }
 }

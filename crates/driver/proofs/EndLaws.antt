@@ -17,6 +17,7 @@ use Rattle.scene.specs.Links.{realsUsed}
 use Rattle.scene.specs.Phase.{idle}
 use Rattle.scene.specs.Reading.{run, read, newline, Reading, accepted, statements, refused}
 use Rattle.scene.specs.Record.{settingsFor, recordsFrom, recordImage, filled, flat, realTable, records, realImage}
+use Rattle.scene.specs.declared.Mode.{Mode}
 use Rattle.scene.specs.declared.Settings.{Settings}
 use Rattle.statement.specs.States.{between}
 use Rattle.statement.specs.declared.State.{State}
@@ -26,30 +27,30 @@ short-read : (R : Settings) (text : Bytes) → length text ≤ 65536 → read R 
 unfolding read
 short-read R text h = ap (λ (b : Bool). cond b (result text R) (refused 1 0)) (le-leb (length text) 65536 h)
 
--- the tables as they were lent
-module _ (text : Bytes) (T₀ : List ℕ) (D₀ : List Float) where
+-- the mode, the text, and the tables as they were lent
+module _ (mode : Mode) (text : Bytes) (T₀ : List ℕ) (D₀ : List Float) where
   abbrev reading : Reading
-  reading = read (settingsFor (length T₀) (length D₀)) text
+  reading = read (settingsFor mode (length T₀) (length D₀)) text
 
   -- a refusal, with both tables cleared
   module _ (T : List ℕ) (D : List Float) (t : T ≡ replicate (length T₀) 0) (d : D ≡ replicate (length D₀) zeroReal) where
-    pub refuses-with : (n p : ℕ) → reading ≡ refused n p → Ends text T₀ D₀ (Refused n p) T D
+    pub refuses-with : (n p : ℕ) → reading ≡ refused n p → Ends mode text T₀ D₀ (Refused n p) T D
     refuses-with n p e = record {
       says = ap ending (sym e);
       table = t ∙ zero-records text (length T₀) n p ∙ ap (recordImage text (length T₀)) (sym e);
       doubles = d ∙ zero-reals (length D₀) n p ∙ ap (realImage (length D₀)) (sym e);
     }
 
-    pub too-long : 65536 < length text → Ends text T₀ D₀ (Refused 1 0) T D
+    pub too-long : 65536 < length text → Ends mode text T₀ D₀ (Refused 1 0) T D
     unfolding read
-    too-long h = refuses-with 1 0 (ap (λ (b : Bool). cond b (result text (settingsFor (length T₀) (length D₀))) (refused 1 0)) (lt-leb (length text) 65536 h))
+    too-long h = refuses-with 1 0 (ap (λ (b : Bool). cond b (result text (settingsFor mode (length T₀) (length D₀))) (refused 1 0)) (lt-leb (length text) 65536 h))
 
   -- the tables when reading ends
-  module _ (T : List ℕ) (D : List Float) (room : Settings) (s : State) (I : Inv text T D room s) (l : length T ≡ length T₀) (m : length D ≡ length D₀) where
+  module _ (T : List ℕ) (D : List Float) (room : Settings) (s : State) (I : Inv text T D room s) (o : room .mode ≡ mode) (l : length T ≡ length T₀) (m : length D ≡ length D₀) where
     pub reads-as : reading ≡ result text room
-    reads-as = ap (λ (z : Settings). read z text) (sym (I .settings ∙ (λ i. settingsFor (l i) (m i)))) ∙ short-read room text (I .short)
+    reads-as = ap (λ (z : Settings). read z text) (sym (I .settings ∙ (λ i. settingsFor (o i) (l i) (m i)))) ∙ short-read room text (I .short)
 
-    pub ends-accepted : (n k : ℕ) → Accepts text T D room n k → Ends text T₀ D₀ (Accepted n k) T D
+    pub ends-accepted : (n k : ℕ) → Accepts text T D room n k → Ends mode text T₀ D₀ (Accepted n k) T D
     unfolding recordImage realImage
     ends-accepted n k A =
         let e : reading ≡ accepted (A .entries) = reads-as ∙ A .accepts in
@@ -60,7 +61,7 @@ module _ (text : Bytes) (T₀ : List ℕ) (D₀ : List Float) where
         }
 
   -- two cleared tables
-  pub first-inv : (T : List ℕ) (D : List Float) → T ≡ replicate (length T₀) 0 → D ≡ replicate (length D₀) zeroReal → length text ≤ 65536 → (R : Settings) → R ≡ settingsFor (length T) (length D) → Inv text T D R (between 0 0 0)
+  pub first-inv : (T : List ℕ) (D : List Float) → T ≡ replicate (length T₀) 0 → D ≡ replicate (length D₀) zeroReal → length text ≤ 65536 → (R : Settings) → R ≡ settingsFor mode (length T) (length D) → Inv text T D R (between 0 0 0)
   unfolding run statements realsUsed records recordsFrom flat table-of.reals
   first-inv T D t d h R q =
       let lt : length T ≡ length T₀ = ap length t ∙ length-replicate (length T₀) 0 in
@@ -76,6 +77,6 @@ module _ (text : Bytes) (T₀ : List ℕ) (D₀ : List Float) where
         is = refl;
         stored = t ∙ ap (λ (n : ℕ). replicate n 0) (sym lt ∙ sym (sub-zero (length T)));
         doubles = d ∙ ap (λ (n : ℕ). replicate n zeroReal) (sym ld ∙ sym (sub-zero (length D)));
-        settings = q;
+        settings = q ∙ ap (λ (z : Settings). settingsFor (z .mode) (length T) (length D)) (sym q);
         short = h;
       }

@@ -27,9 +27,9 @@ use Rattle.scene.specs.Phase.{integerCount, Outcome, fault, idle, busy, Phase, 
 use Rattle.scene.specs.Reading.{settle, modifierTest, Places, Entry, statements, targetTest, note, roomTest, test, atEnd}
 use Rattle.scene.specs.Record.{recordOf, stringPlace, firstReal, unlessNone}
 use Rattle.scene.specs.Statement.{alias, Statement, Literal, void, numbers, Body, literal, primitive}
-use Rattle.scene.specs.Types.{stringsAllowed, realsAllowed, typeNumber}
+use Rattle.scene.specs.Types.{isRetired, stringsAllowed, realsAllowed, typeNumber}
 use Rattle.scene.specs.declared.Settings.{Settings}
-use Rattle.statement.specs.Heads.{goingTo, modifierStep, withTarget, withName, linkTo, typedAs, kindStep, targetStep, nameStep, targetAt}
+use Rattle.statement.specs.Heads.{goingTo, modifierStep, withKind, withTarget, withName, linkTo, typedAs, kindStep, targetStep, nameStep, targetAt}
 use Rattle.statement.specs.States.{opened}
 use Rattle.statement.specs.declared.Draft.{Draft}
 use Rattle.statement.specs.declared.Seen.{Seen}
@@ -92,14 +92,18 @@ module _ (r : Settings) (es : List Entry) (k : Places) (p : ℕ) (w : Bytes) (u 
     onto-part : (pt next : Part) (s : State) → s ≡ image after d (busy m next) (note (busy m pt) p k) → partReals next ≡ partReals pt ++ [] → FollowsPart pt (onto next) (to.Going s)
     onto-part pt next s e h = record { phase = busy m next; places = note (busy m pt) p k; goes = refl; is = e; reals = h }
 
-    step-kind : FollowsPart atType (turn r atType w) (kindStep w (before atType) v)
+    step-kind : FollowsPart atType (turn r atType w) (kindStep w (r .mode) (before atType) v)
     unfolding kindStep
     step-kind = go (same w (bytes "alias")) (typeNumber w)
       where
-        go : (q : Bool) (t : ℕ) → FollowsPart atType (cond q (onto atAliasName) (typed t)) (cond q (goingTo (before atType) is.AliasName 0 (before atType .draft)) (typedAs (before atType) p t))
+        known : (o : Bool) (t : ℕ) → FollowsPart atType (cond o (fault 28) (onto (atName t))) (cond o (to.Refused 28 p) (goingTo (before atType) is.Name 0 (withKind (before atType .draft) t)))
+        known true t = refl
+        known false t = onto-part atType (atName t) _ refl refl
+
+        go : (q : Bool) (t : ℕ) → FollowsPart atType (cond q (onto atAliasName) (typed (r .mode) t)) (cond q (goingTo (before atType) is.AliasName 0 (before atType .draft)) (typedAs (r .mode) (before atType) p t))
         go true t = onto-part atType atAliasName _ refl refl
         go false zero = refl
-        go false (suc t) = onto-part atType (atName (suc t)) _ refl refl
+        go false (suc t) = known (isRetired (r .mode) (suc t)) (suc t)
 
     step-name : (t : ℕ) → FollowsPart (atName t) (turn r (atName t) w) (nameStep is.StringCount w (before (atName t)) v)
     unfolding nameStep

@@ -132,7 +132,7 @@ module _ (text : Bytes) (table : List ℕ) (reals : List Float) (room : Settings
     is = N .is ∙ ap (λ (n : ℕ). image n (statements (I .above)) (N .phase) (N .places)) length-read;
     stored = I .stored;
     doubles = h ∙ (λ i. filled zeroReal (sym l i) ((append-assoc (realTable (I .above)) (openReals (I .phase)) xs ∙ ap {B = List Float} (λ (z : List Float). realTable (I .above) ++ z) (sym (N .reals))) i));
-    settings = I .settings ∙ ap (settingsFor (length table)) (sym l);
+    settings = I .settings ∙ ap (settingsFor (room .mode) (length table)) (sym l);
     short = I .short;
   }
 
@@ -152,7 +152,7 @@ module _ (text : Bytes) (table : List ℕ) (reals : List Float) (room : Settings
     is = q ∙ (λ i. between ((N .place ∙ length-read) i) (count i) (total i));
     stored = h ∙ ap (λ (n : ℕ). filled 0 n (flat text (records (N .entry ∷ I .above)))) (sym t);
     doubles = g ∙ (λ i. filled zeroReal (sym d i) ((append-assoc (realTable (I .above)) (openReals (I .phase)) xs ∙ ap {B = List Float} (λ (z : List Float). realTable (I .above) ++ z) (sym (N .reals)) ∙ sym (append-nil (realTable (I .above) ++ realsIn (N .entry .statement .body)))) i));
-    settings = I .settings ∙ (λ i. settingsFor (sym t i) (sym d i));
+    settings = I .settings ∙ (λ i. settingsFor (room .mode) (sym t i) (sym d i));
     short = I .short;
   }
     where

@@ -33,7 +33,7 @@ pub record Inv (text : Bytes) (table : List ℕ) (reals : List Float) (room : Se
   pub is : s ≡ image (length done) (statements above) phase places
   pub stored : table ≡ filled 0 (length table) (flat text (records above))
   pub doubles : reals ≡ filled zeroReal (length reals) (realTable above ++ openReals phase)
-  pub settings : room ≡ settingsFor (length table) (length reals)
+  pub settings : room ≡ settingsFor (room .mode) (length table) (length reals)
   pub short : length text ≤ 65536
 
 -- a word of so many bytes stands at the state's place

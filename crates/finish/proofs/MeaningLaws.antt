@@ -25,6 +25,7 @@ use Rattle.scene.proofs.TellsLaws.{records-length, nth-at, split-statements, st
 use Rattle.scene.specs.Links.{gives, hits, found, head, definition, latest, modifierLink, ownBody, typeIn}
 use Rattle.scene.specs.Reading.{Reading, Entry, statements, modifierTest, accepted, read}
 use Rattle.scene.specs.Record.{flat, settingsFor, Record, recordIn, recordOf, records, recordImage, nth, width}
+use Rattle.scene.specs.declared.Mode.{Mode}
 use Rattle.scene.specs.declared.Settings.{Settings}
 use Rattle.scene.specs.Types.{isMaterial}
 use Rattle.scene.specs.Statement.{Body, primitive, alias, Statement, void}
@@ -213,9 +214,9 @@ module _ (r : Settings) (text : Bytes) (es : List Entry) (reads : read r text �
   finish-means allowance c h = rw (number-fine c) (walk-means allowance 0 h)
 
 -- the same of the tables lent to the reader; it refuses nothing
-module _ (text : Bytes) (lent doubles : ℕ) (es : List Entry) (reads : read (settingsFor lent doubles) text ≡ accepted es) (l : List Entry) (e : Entry) (x : List Entry) (q : es ≡ l ++ e ∷ x) (allowance : ℕ) (enough : length x ≤ allowance) where
-  pub finish-read : finishOf (recordImage text lent (read (settingsFor lent doubles) text)) (length es) (suc (length x)) allowance ≡ finishIn (e .statement .modifier) (statements x) 0
-  finish-read = finish-means (settingsFor lent doubles) text es reads lent l e x q allowance (min-le-left 1024 (lent / width)) enough
+module _ (mode : Mode) (text : Bytes) (lent doubles : ℕ) (es : List Entry) (reads : read (settingsFor mode lent doubles) text ≡ accepted es) (l : List Entry) (e : Entry) (x : List Entry) (q : es ≡ l ++ e ∷ x) (allowance : ℕ) (enough : length x ≤ allowance) where
+  pub finish-read : finishOf (recordImage text lent (read (settingsFor mode lent doubles) text)) (length es) (suc (length x)) allowance ≡ finishIn (e .statement .modifier) (statements x) 0
+  finish-read = finish-means (settingsFor mode lent doubles) text es reads lent l e x q allowance (min-le-left 1024 (lent / width)) enough
 
-  pub finish-accepts : numbersOf (finishOf (recordImage text lent (read (settingsFor lent doubles) text)) (length es) (suc (length x)) allowance) .reason ≡ 0
+  pub finish-accepts : numbersOf (finishOf (recordImage text lent (read (settingsFor mode lent doubles) text)) (length es) (suc (length x)) allowance) .reason ≡ 0
   finish-accepts = ap (λ (f : Finish). numbersOf f .reason) finish-read ∙ finish-reaches (e .statement .modifier) (statements x) 0

@@ -3,6 +3,7 @@
 use finish::Finish;
 use input::Loaded;
 use reader::Answer;
+use scene::Mode;
 
 // Enough for any line: three numbers of 20 digits at most, a type of 10 bytes, two names of 64, and 44 more.
 const LINE: usize = 256;
@@ -45,40 +46,40 @@ fn print_finishes(text: &[u8], records: &[u32], count: usize) -> bool {
 }
 
 // The lines of a text's surfaces, or its refusal.
-fn show(text: &[u8]) -> bool {
+fn show(mode: Mode, text: &[u8]) -> bool {
     let mut records = [0u32; table::MOST_NUMBERS];
     let mut reals = [0.0f64; table::MOST_REALS];
-    match reader::read(text, &mut records, &mut reals) {
+    match reader::read(mode, text, &mut records, &mut reals) {
         Answer::Accepted(primitives, _) => print_finishes(text, &records, primitives),
         Answer::Refused(reason, place) => output::print_refusal(reason, place),
     }
 }
 
 // Answers whether to go on with the next text: not after a failed write.
-fn show_text(number: usize) -> bool {
+fn show_text(mode: Mode, number: usize) -> bool {
     let mut text = [0u8; table::MOST_BYTES];
     match input::load(number, &mut text) {
-        Loaded::Text(n) => input::print_heading(number) && show(lexer::part(&text, 0, n)),
+        Loaded::Text(n) => input::print_heading(number) && show(mode, lexer::part(&text, 0, n)),
         Loaded::TooLong => input::print_heading(number) && output::print_refusal(1, 0),
         Loaded::Unreadable => input::print_unreadable(number),
     }
 }
 
-fn show_all() {
-    let count = input::count();
-    let mut number = 0;
-    while number < count {
-        number += 1;
-        if !show_text(number) {
+fn show_all(mode: Mode) {
+    let end = input::end();
+    let mut number = input::first();
+    while number < end {
+        if !show_text(mode, number) {
             return;
         }
+        number += 1;
     }
 }
 
 fn main() {
-    if input::has_option() {
-        output::print(b"usage: finishes [FILE..]\n");
+    if input::has_unknown_option() {
+        output::print(b"usage: finishes [--archive] [FILE..]\n");
         return;
     }
-    show_all();
+    show_all(input::mode());
 }

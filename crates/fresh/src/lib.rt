@@ -8,6 +8,7 @@ ghost use Rattle.scene.specs.HouseRules.{zeroReal};
 ghost use Rattle.scene.specs.Record.{filled};
 ghost use Rattle.fresh.specs.Fresh.{freshOf};
 use reader::Answer;
+use scene::Mode;
 
 // The tables are those of a fresh reading of so many primitives; or why not.
 pub enum Fresh {
@@ -55,15 +56,15 @@ fn same_reals(table: &[f64], fresh: &[f64]) -> bool
     true
 }
 
-// Reads the text afresh, at the sizes of the lent tables, and compares them.
-pub fn compare(text: &[u8], records: &[u32], reals: &[f64]) -> Fresh
-    ensures { λ r. ⌜ r ≡ freshOf (now (text .entry)) (now (records .entry)) (now (reals .entry)) (readInto (now (text .entry)) (now (records .entry)) (now (reals .entry))) ⌝ }
+// Reads the text afresh, in a mode, at the sizes of the lent tables, and compares them.
+pub fn compare(mode: Mode, text: &[u8], records: &[u32], reals: &[f64]) -> Fresh
+    ensures { λ r. ⌜ r ≡ freshOf (now (text .entry)) (now (records .entry)) (now (reals .entry)) (readInto mode (now (text .entry)) (now (records .entry)) (now (reals .entry))) ⌝ }
 {
     let mut fresh_records = [0u32; table::MOST_NUMBERS];
     let mut fresh_reals = [0.0f64; table::MOST_REALS];
     let n = lexer::least(records.len(), table::MOST_NUMBERS);
     let k = lexer::least(reals.len(), table::MOST_REALS);
-    match reader::read(text, &mut fresh_records[..n], &mut fresh_reals[..k]) {
+    match reader::read(mode, text, &mut fresh_records[..n], &mut fresh_reals[..k]) {
         Answer::Refused(reason, place) => Fresh::Refused(reason, place),
         Answer::Accepted(count, _) => {
             if same_numbers(records, &fresh_records[..n]) & same_reals(reals, &fresh_reals[..k]) {

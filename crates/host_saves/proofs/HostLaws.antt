@@ -1,7 +1,7 @@
 -- Two readings, the key held and a scene written out, as host programs are told of them.
 use mathlib.Core.Bool.{Bool, cond}
 use mathlib.Core.List.{List, [], _∷_}
-use mathlib.Core.Path.{_≡_, refl, sym, ap, _∙_}
+use mathlib.Core.Path.{_≡_, refl, sym, ap, subst, _∙_}
 use Prim.Native.Nat.{ℕ}
 use borrow.Author.Tests.{eq-eqb, ne-eqb}
 use lib.Ieee.{Float}
@@ -13,19 +13,22 @@ use Rattle.comparison.specs.declared.Next.the-variants as next
 use Rattle.comparison.specs.declared.Place.{Place}
 use Rattle.comparison.specs.declared.Place.the-variants as on
 use Rattle.comparison.specs.declared.State.{State}
+use Rattle.host_scenes.specs.Host.{modeOf}
 use Rattle.keys.specs.Rows.{sceneRows}
 use Rattle.laws.specs.Bytes.{Bytes}
 use Rattle.pair.specs.Both as both
 use Rattle.pair.specs.Both.{ReadsBoth}
 use Rattle.pair.specs.declared.Both.{Both}
+use Rattle.scene.specs.declared.Mode.{Mode}
 use Rattle.writer.specs.Answer as written
 use Rattle.writer.specs.Answer.{Writes}
 use Rattle.writer.specs.declared.Answer.{Answer}
 use Rattle.host_saves.specs.Host.{HostLine, HostReadsBoth, HostWrites, heldIn}
 
--- an answer of two readings, told by its numbers
-pub both-told : (left : Bytes) (lr : List ℕ) (lx : List Float) (right : Bytes) (rr : List ℕ) (rx : List Float) (b : Both) (lr′ : List ℕ) (lx′ : List Float) (rr′ : List ℕ) (rx′ : List Float) (out : List ℕ) → out ≡ both.valuesOf b → ReadsBoth left lr lx right rr rx b lr′ lx′ rr′ rx′ → HostReadsBoth left lr lx right rr rx (both.reasonOf b) out lr′ lx′ rr′ rx′
-both-told left lr lx right rr rx b lr′ lx′ rr′ rx′ out h e =
+-- an answer of two readings, told by its numbers; the mode too is handed as a number
+pub both-told : (number : ℕ) (mode : Mode) → mode ≡ modeOf number → (left : Bytes) (lr : List ℕ) (lx : List Float) (right : Bytes) (rr : List ℕ) (rx : List Float) (b : Both) (lr′ : List ℕ) (lx′ : List Float) (rr′ : List ℕ) (rx′ : List Float) (out : List ℕ) → out ≡ both.valuesOf b → ReadsBoth mode left lr lx right rr rx b lr′ lx′ rr′ rx′ → HostReadsBoth number left lr lx right rr rx (both.reasonOf b) out lr′ lx′ rr′ rx′
+both-told number mode q left lr lx right rr rx b lr′ lx′ rr′ rx′ out h R =
+    let e = subst (λ (m : Mode). ReadsBoth m left lr lx right rr rx b lr′ lx′ rr′ rx′) q R in
     record {
       says = ap both.reasonOf (e .says);
       numbers = h ∙ ap both.valuesOf (e .says);
@@ -33,8 +36,9 @@ both-told left lr lx right rr rx b lr′ lx′ rr′ rx′ out h e =
     }
 
 -- an answer of the writer, told by its numbers
-pub written-told : (text : Bytes) (records : List ℕ) (reals : List Float) (out : Bytes) (a : Answer) (out′ : Bytes) → Writes text records reals out a out′ → HostWrites text records reals out (written.reasonOf a) (written.valuesOf a) out′
-written-told text records reals out a out′ e =
+pub written-told : (number : ℕ) (mode : Mode) → mode ≡ modeOf number → (text : Bytes) (records : List ℕ) (reals : List Float) (out : Bytes) (a : Answer) (out′ : Bytes) → Writes mode text records reals out a out′ → HostWrites number text records reals out (written.reasonOf a) (written.valuesOf a) out′
+written-told number mode q text records reals out a out′ W =
+    let e = subst (λ (m : Mode). Writes m text records reals out a out′) q W in
     record { says = ap written.reasonOf (e .says); numbers = ap written.valuesOf (e .says); bytes = e .output }
 
 -- the answer y of the code, which is the line x after the key held, told by its numbers

@@ -11,6 +11,7 @@ use Rattle.comparison.specs.Answer as line
 use Rattle.comparison.specs.NextLine.{nextLine}
 use Rattle.comparison.specs.declared.Place.{Place}
 use Rattle.comparison.specs.declared.Place.the-variants as on
+use Rattle.host_scenes.specs.Host.{modeOf}
 use Rattle.keys.specs.Rows.{sceneRows}
 use Rattle.laws.specs.Bytes.{Bytes}
 use Rattle.pair.specs.Both as both
@@ -21,10 +22,10 @@ use Rattle.writer.specs.Answer.{answered, output, tidied}
 
 -- ---- two texts read: the reason, or 0; side, place and counts; and all four tables
 
-pub record HostReadsBoth (left : Bytes) (lr : List ℕ) (lx : List Float) (right : Bytes) (rr : List ℕ) (rx : List Float) (r : ℕ) (out : List ℕ) (lr′ : List ℕ) (lx′ : List Float) (rr′ : List ℕ) (rx′ : List Float) : Type 0 where
-  pub says : r ≡ both.reasonOf (bothAnswer (readInto left lr lx) (readInto right rr rx))
-  pub numbers : out ≡ both.valuesOf (bothAnswer (readInto left lr lx) (readInto right rr rx))
-  pub tables : ReadsBoth left lr lx right rr rx (bothAnswer (readInto left lr lx) (readInto right rr rx)) lr′ lx′ rr′ rx′
+pub record HostReadsBoth (mode : ℕ) (left : Bytes) (lr : List ℕ) (lx : List Float) (right : Bytes) (rr : List ℕ) (rx : List Float) (r : ℕ) (out : List ℕ) (lr′ : List ℕ) (lx′ : List Float) (rr′ : List ℕ) (rx′ : List Float) : Type 0 where
+  pub says : r ≡ both.reasonOf (bothAnswer (readInto (modeOf mode) left lr lx) (readInto (modeOf mode) right rr rx))
+  pub numbers : out ≡ both.valuesOf (bothAnswer (readInto (modeOf mode) left lr lx) (readInto (modeOf mode) right rr rx))
+  pub tables : ReadsBoth (modeOf mode) left lr lx right rr rx (bothAnswer (readInto (modeOf mode) left lr lx) (readInto (modeOf mode) right rr rx)) lr′ lx′ rr′ rx′
 
 -- ---- the lines of a comparison
 
@@ -39,7 +40,7 @@ pub record HostLine (left : Bytes) (lr : List ℕ) (lx : List Float) (right : By
 
 -- ---- a scene written out: the reason, or 0; place and length; and the output
 
-pub record HostWrites (text : Bytes) (records : List ℕ) (reals : List Float) (out : Bytes) (r : ℕ) (values : List ℕ) (out′ : Bytes) : Type 0 where
-  pub says : r ≡ written.reasonOf (answered (tidied text records reals (length out)))
-  pub numbers : values ≡ written.valuesOf (answered (tidied text records reals (length out)))
-  pub bytes : out′ ≡ output (length out) (tidied text records reals (length out))
+pub record HostWrites (mode : ℕ) (text : Bytes) (records : List ℕ) (reals : List Float) (out : Bytes) (r : ℕ) (values : List ℕ) (out′ : Bytes) : Type 0 where
+  pub says : r ≡ written.reasonOf (answered (tidied (modeOf mode) text records reals (length out)))
+  pub numbers : values ≡ written.valuesOf (answered (tidied (modeOf mode) text records reals (length out)))
+  pub bytes : out′ ≡ output (length out) (tidied (modeOf mode) text records reals (length out))

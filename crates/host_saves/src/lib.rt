@@ -23,6 +23,7 @@ fn side_number(side: Side) -> usize
 
 // Reads two scenes: the reason or 0, and side, place, and primitives and reals of each.
 pub fn tell_both(
+    mode: u32,
     left: &[u8],
     left_records: &mut [u32],
     left_reals: &mut [f64],
@@ -31,9 +32,10 @@ pub fn tell_both(
     right_reals: &mut [f64],
     answer: &mut [usize; 6],
 ) -> u32
-    ensures { λ r. ⌜ HostReadsBoth (now (left .entry)) (now («left_records» .entry)) (now («left_reals» .entry)) (now (right .entry)) (now («right_records» .entry)) (now («right_reals» .entry)) r (now (answer .exit)) (now («left_records» .exit)) (now («left_reals» .exit)) (now («right_records» .exit)) (now («right_reals» .exit)) ⌝ }
+    ensures { λ r. ⌜ HostReadsBoth mode (now (left .entry)) (now («left_records» .entry)) (now («left_reals» .entry)) (now (right .entry)) (now («right_records» .entry)) (now («right_reals» .entry)) r (now (answer .exit)) (now («left_records» .exit)) (now («left_reals» .exit)) (now («right_records» .exit)) (now («right_reals» .exit)) ⌝ }
 {
     match pair::read_both(
+        host_scenes::mode_of(mode),
         left,
         left_records,
         left_reals,
@@ -118,15 +120,16 @@ pub fn tell_line<'a>(
 
 // Writes a scene out: the reason or 0, and the place of a refusal and the length of the text.
 pub fn tell_written(
+    mode: u32,
     text: &[u8],
     records: &[u32],
     reals: &[f64],
     out: &mut [u8],
     answer: &mut [usize; 2],
 ) -> u32
-    ensures { λ r. ⌜ HostWrites (now (text .entry)) (now (records .entry)) (now (reals .entry)) (now (out .entry)) r (now (answer .exit)) (now (out .exit)) ⌝ }
+    ensures { λ r. ⌜ HostWrites mode (now (text .entry)) (now (records .entry)) (now (reals .entry)) (now (out .entry)) r (now (answer .exit)) (now (out .exit)) ⌝ }
 {
-    match writer::write(text, records, reals, out) {
+    match writer::write(host_scenes::mode_of(mode), text, records, reals, out) {
         Answer::Written(len) => {
             *answer = [0, len];
             0

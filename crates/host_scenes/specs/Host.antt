@@ -13,14 +13,21 @@ use Rattle.lexer.specs.Word.{wordAt}
 use Rattle.reader.specs.Answer.{readInto}
 use Rattle.scene.specs.Record as scene
 use Rattle.scene.specs.Record.{recordIn, recordImage, realImage}
+use Rattle.scene.specs.declared.Mode.{Mode}
+use Rattle.scene.specs.declared.Mode.the-variants.{New, Archive}
+
+-- ---- the mode: 1 is the archive reading, and any other number the new one
+
+unfoldable pub modeOf : ℕ → Mode
+modeOf n = cond (eqb n 1) Archive New
 
 -- ---- the reader: its reason, or 0; place, primitives, reals; and both tables
 
-pub record HostReads (text : Bytes) (records : List ℕ) (reals : List Float) (r : ℕ) (out : List ℕ) (records′ : List ℕ) (reals′ : List Float) : Type 0 where
-  pub says : r ≡ scene.answer (readInto text records reals) .reason
-  pub numbers : let a = scene.answer (readInto text records reals) in out ≡ a .place ∷ a .primitives ∷ a .reals ∷ []
-  pub table : records′ ≡ recordImage text (length records) (readInto text records reals)
-  pub doubles : reals′ ≡ realImage (length reals) (readInto text records reals)
+pub record HostReads (mode : ℕ) (text : Bytes) (records : List ℕ) (reals : List Float) (r : ℕ) (out : List ℕ) (records′ : List ℕ) (reals′ : List Float) : Type 0 where
+  pub says : r ≡ scene.answer (readInto (modeOf mode) text records reals) .reason
+  pub numbers : let a = scene.answer (readInto (modeOf mode) text records reals) in out ≡ a .place ∷ a .primitives ∷ a .reals ∷ []
+  pub table : records′ ≡ recordImage text (length records) (readInto (modeOf mode) text records reals)
+  pub doubles : reals′ ≡ realImage (length reals) (readInto (modeOf mode) text records reals)
 
 -- ---- questions to a finished table
 

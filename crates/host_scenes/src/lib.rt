@@ -1,22 +1,34 @@
 // Answers about scenes as host programs are handed them: a number for the kind of answer, and its values in a small array.
 use finish::Finish;
 use reader::Answer;
+use scene::Mode;
 use table::NAME;
 use table::NAME_LENGTH;
 ghost use mathlib.Core.Path.{_≡_};
 ghost use Rattle.finish.specs.Question.{nameRefusal};
-ghost use Rattle.host_scenes.specs.Host.{HostReads, finishReason, finishValues, namePart, wordValues};
+ghost use Rattle.host_scenes.specs.Host.{HostReads, finishReason, finishValues, modeOf, namePart, wordValues};
+
+// The mode of a number: 1 is the archive reading, and any other number the new one.
+pub fn mode_of(number: u32) -> Mode
+    ensures { λ r. ⌜ r ≡ modeOf number ⌝ }
+{
+    if number == 1 {
+        return Mode::Archive;
+    }
+    Mode::New
+}
 
 // Reads a scene: the reason or 0, and place, primitives, reals.
 pub fn tell_reading(
+    mode: u32,
     text: &[u8],
     records: &mut [u32],
     reals: &mut [f64],
     answer: &mut [usize; 3],
 ) -> u32
-    ensures { λ r. ⌜ HostReads (now (text .entry)) (now (records .entry)) (now (reals .entry)) r (now (answer .exit)) (now (records .exit)) (now (reals .exit)) ⌝ }
+    ensures { λ r. ⌜ HostReads mode (now (text .entry)) (now (records .entry)) (now (reals .entry)) r (now (answer .exit)) (now (records .exit)) (now (reals .exit)) ⌝ }
 {
-    match reader::read(text, records, reals) {
+    match reader::read(mode_of(mode), text, records, reals) {
         Answer::Accepted(primitives, used) => {
             *answer = [0, primitives, used];
             0

@@ -1,8 +1,10 @@
-// The texts that a program is asked about: the files that its arguments name, or standard input where there are none. They
-// are counted from 1, as the arguments are.
+// The texts that a program is asked about: the files that its arguments name, or standard input where there are none. A text
+// goes by its argument's number; standard input has the number that a first file would have.
 use libc::STDERR_FILENO;
 use libc::STDIN_FILENO;
 use libc::STDOUT_FILENO;
+use scene::Mode;
+ghost use Prim.Native.Nat.{_≤_};
 
 // How many bytes of the buffer a text has; or why it has none.
 pub enum Loaded {
@@ -43,17 +45,49 @@ pub fn load_argument(argument: usize, text: &mut [u8]) -> Loaded {
     loaded
 }
 
-// How many texts there are.
-pub fn count() -> usize {
-    let arguments = os::arg_count();
-    if arguments < 2 {
-        return 1;
+// Whether the first argument asks for the archive reading.
+fn has_archive() -> bool {
+    let mut option = [0u8; 9];
+    let n = os::arg(1, &mut option);
+    lexer::same(lexer::part(&option, 0, n), b"--archive")
+}
+
+// How the texts are to be read.
+pub fn mode() -> Mode {
+    if has_archive() {
+        return Mode::Archive;
     }
-    arguments - 1
+    Mode::New
+}
+
+// The first text.
+pub fn first() -> usize
+    ensures { λ r. ⌜ r ≤ 2 ⌝ }
+{
+    if has_archive() {
+        return 2;
+    }
+    1
+}
+
+// The number behind the last text's.
+pub fn end() -> usize
+    ensures { λ r. ⌜ 1 ≤ r ⌝ }
+{
+    let first = first();
+    let count = os::arg_count();
+    if count <= first {
+        return first + 1;
+    }
+    count
+}
+
+fn is_standard(number: usize) -> bool {
+    os::arg_count() <= number
 }
 
 pub fn load(number: usize, text: &mut [u8]) -> Loaded {
-    if os::arg_count() < 2 {
+    if is_standard(number) {
         return load_standard(text);
     }
     load_argument(number, text)
@@ -66,10 +100,10 @@ fn is_option(argument: usize) -> bool {
     first[0] == b'-'
 }
 
-// Whether an argument is an option. There is none that a program knows.
-pub fn has_option() -> bool {
+// Whether an argument is an option, other than a first one that programs know.
+pub fn has_unknown_option() -> bool {
     let count = os::arg_count();
-    let mut i = 1;
+    let mut i = first();
     while i < count {
         if is_option(i) {
             return true;
@@ -81,7 +115,7 @@ pub fn has_option() -> bool {
 
 // Writes which file a text is from, and what stands behind its name; nothing for standard input.
 fn write_name(fd: i32, number: usize, behind: &[u8]) -> bool {
-    if os::arg_count() < 2 {
+    if is_standard(number) {
         return true;
     }
     let mut name = io::buffer();
@@ -91,7 +125,7 @@ fn write_name(fd: i32, number: usize, behind: &[u8]) -> bool {
 
 // The line above what is printed of a text, where there are several.
 pub fn print_heading(number: usize) -> bool {
-    if os::arg_count() < 3 {
+    if end() <= first() + 1 {
         return true;
     }
     output::noticed(write_name(STDOUT_FILENO, number, b"\n"))

@@ -3,9 +3,10 @@ ghost use mathlib.Core.Path.{_≡_};
 ghost use Prim.Native.Nat.{_*_, _<_};
 ghost use Rattle.laws.specs.Bytes.{part};
 ghost use Rattle.scene.specs.HouseRules.{breachAt, houseRules, isAbove0, isAtLeast0, is0};
-ghost use Rattle.scene.specs.Types.{allows, isMaterial, isModifier, isSurface, realsAllowed, stringsAllowed, typeName, typeNumber};
+ghost use Rattle.scene.specs.Types.{allows, isMaterial, isModifier, isRetired, isSurface, realsAllowed, stringsAllowed, typeName, typeNumber};
 ghost use Rattle.kinds.specs.Names.{padded};
 ghost use Rattle.kinds.specs.Rules.{breached, broken, names, rowNumber, ruleOf};
+use scene::Mode;
 
 // A name: ten bytes, and how many of them, from the first on, are its own.
 pub struct Name(pub [u8; 10], pub usize);
@@ -166,6 +167,8 @@ const INTERFACE: u32 = 22;
 
 const GLASS: u32 = 23;
 
+const ANTIMATTER: u32 = 24;
+
 // What a house rule asks of a real, of it and the one before, or of it and the two before.
 const ABOVE_0: u32 = 0;
 
@@ -224,6 +227,16 @@ pub fn is_material(t: u32) -> bool
     ensures { λ r. ⌜ r ≡ isMaterial t ⌝ }
 {
     (10 <= t) & (t <= 24)
+}
+
+// Whether a type is one that the reading no longer accepts.
+pub fn is_retired(mode: Mode, t: u32) -> bool
+    ensures { λ r. ⌜ r ≡ isRetired mode t ⌝ }
+{
+    match mode {
+        Mode::New => t == ANTIMATTER,
+        Mode::Archive => false,
+    }
 }
 
 // The row of a type's number in the tables; number 0 has the one past their last, as it is of no type.

@@ -13,14 +13,15 @@ ghost use Rattle.root.specs.Root.{rootOf};
 // Reads a scene: the reason or 0, and place, primitives, reals.
 #[no_mangle]
 pub extern "C" fn kribbelsteen_read(
+    mode: u32,
     text: &[u8],
     records: &mut [u32],
     reals: &mut [f64],
     answer: &mut [usize; 3],
 ) -> u32
-    ensures { λ r. ⌜ HostReads (now (text .entry)) (now (records .entry)) (now (reals .entry)) r (now (answer .exit)) (now (records .exit)) (now (reals .exit)) ⌝ }
+    ensures { λ r. ⌜ HostReads mode (now (text .entry)) (now (records .entry)) (now (reals .entry)) r (now (answer .exit)) (now (records .exit)) (now (reals .exit)) ⌝ }
 {
-    host_scenes::tell_reading(text, records, reals, answer)
+    host_scenes::tell_reading(mode, text, records, reals, answer)
 }
 
 // A primitive's name: the refusal's number or 0, and the name's place and length.
@@ -64,6 +65,7 @@ pub extern "C" fn kribbelsteen_next_word(text: &[u8], at: usize, answer: &mut [u
 // Reads two scenes: the reason or 0, and side, place, and primitives and reals of each.
 #[no_mangle]
 pub extern "C" fn kribbelsteen_read_both(
+    mode: u32,
     left: &[u8],
     left_records: &mut [u32],
     left_reals: &mut [f64],
@@ -72,9 +74,10 @@ pub extern "C" fn kribbelsteen_read_both(
     right_reals: &mut [f64],
     answer: &mut [usize; 6],
 ) -> u32
-    ensures { λ r. ⌜ HostReadsBoth (now (left .entry)) (now («left_records» .entry)) (now («left_reals» .entry)) (now (right .entry)) (now («right_records» .entry)) (now («right_reals» .entry)) r (now (answer .exit)) (now («left_records» .exit)) (now («left_reals» .exit)) (now («right_records» .exit)) (now («right_reals» .exit)) ⌝ }
+    ensures { λ r. ⌜ HostReadsBoth mode (now (left .entry)) (now («left_records» .entry)) (now («left_reals» .entry)) (now (right .entry)) (now («right_records» .entry)) (now («right_reals» .entry)) r (now (answer .exit)) (now («left_records» .exit)) (now («left_reals» .exit)) (now («right_records» .exit)) (now («right_reals» .exit)) ⌝ }
 {
     host_saves::tell_both(
+        mode,
         left,
         left_records,
         left_reals,
@@ -112,15 +115,16 @@ pub extern "C" fn kribbelsteen_next_line<'a>(
 // Writes a scene out: the reason or 0, and the place of a refusal and the length of the text.
 #[no_mangle]
 pub extern "C" fn kribbelsteen_write(
+    mode: u32,
     text: &[u8],
     records: &[u32],
     reals: &[f64],
     out: &mut [u8],
     answer: &mut [usize; 2],
 ) -> u32
-    ensures { λ r. ⌜ HostWrites (now (text .entry)) (now (records .entry)) (now (reals .entry)) (now (out .entry)) r (now (answer .exit)) (now (out .exit)) ⌝ }
+    ensures { λ r. ⌜ HostWrites mode (now (text .entry)) (now (records .entry)) (now (reals .entry)) (now (out .entry)) r (now (answer .exit)) (now (out .exit)) ⌝ }
 {
-    host_saves::tell_written(text, records, reals, out, answer)
+    host_saves::tell_written(mode, text, records, reals, out, answer)
 }
 
 // A ray on a sphere: 0 hit, 1 miss, or the refusal's number, and the distance.

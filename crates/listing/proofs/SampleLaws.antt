@@ -4,18 +4,24 @@ use mathlib.Core.Path.{_≡_, refl}
 use Prim.Native.Nat.{ℕ}
 use Rattle.laws.specs.Bytes.{bytes}
 use Rattle.buffer.specs.Decimal.{digits, decimal}
-use Rattle.listing.specs.Listing.{headLine, lineOf, rowLine}
+use Rattle.listing.specs.Listing.{headLines, lineOf, rowLine}
 use Rattle.buffer.specs.Put.{put}
 use Rattle.scene.specs.Record.{fieldIn, nameIn, recordIn}
 use Rattle.scene.specs.Types.{kindOf, typeName}
+use Rattle.scene.specs.declared.Mode.{Mode}
+use Rattle.scene.specs.declared.Mode.the-variants.{New, Archive}
 
-pub accepted : headLine (record { reason = 0; place = 0; primitives = 4; reals = 14 }) ≡ bytes "primitives=4 reals=14\n"
-unfolding headLine digits decimal
+pub accepted : headLines New (record { reason = 0; place = 0; primitives = 4; reals = 14 }) ≡ bytes "primitives=4 reals=14\n"
+unfolding headLines digits decimal
 accepted = refl
 
-pub refused : headLine (record { reason = 7; place = 0; primitives = 0; reals = 0 }) ≡ bytes "refused=7 place=0\n"
-unfolding headLine digits decimal
-refused = refl
+pub archive : headLines Archive (record { reason = 0; place = 0; primitives = 4; reals = 14 }) ≡ bytes "archive=1\nprimitives=4 reals=14\n"
+unfolding headLines digits decimal
+archive = refl
+
+pub refused : (mode : Mode) → headLines mode (record { reason = 7; place = 0; primitives = 0; reals = 0 }) ≡ bytes "refused=7 place=0\n"
+unfolding headLines digits decimal
+refused mode = refl
 
 abbrev table : List ℕ
 table = 15 ∷ 0 ∷ 0 ∷ 13 ∷ 4 ∷ 0 ∷ 0 ∷ 0 ∷ 5 ∷ 2 ∷ []

@@ -1,17 +1,24 @@
 -- The lines of a listing.
 use mathlib.Core.Bool.{cond}
-use mathlib.Core.List.{List, _++_}
+use mathlib.Core.List.{List, [], _++_}
 use Prim.Native.Nat.{ℕ}
 use lib.Dec.{eqb}
 use Rattle.fields.specs.Fields.{field, textField, kindField, lastField}
-use Rattle.laws.specs.Bytes.{Bytes}
+use Rattle.laws.specs.Bytes.{Bytes, bytes}
 use Rattle.scene.specs.Record.{Answer, nameIn, recordIn}
+use Rattle.scene.specs.declared.Mode.{Mode}
+use Rattle.scene.specs.declared.Mode.the-variants.{New, Archive}
 
--- the first line: the counts, or the reason for refusing and its place
-unfoldable pub headLine : Answer → Bytes
-headLine a =
+-- "an accepted listing adds `archive=1` as its first line"
+abbrev pub modeLine : Mode → Bytes
+modeLine New = []
+modeLine Archive = bytes "archive=1\n"
+
+-- the first lines: the mode and the counts, or the reason for refusing and its place
+unfoldable pub headLines : Mode → Answer → Bytes
+headLines mode a =
     cond (eqb (a .reason) 0)
-    (field "primitives=" (a .primitives) ++ lastField " reals=" (a .reals))
+    (modeLine mode ++ (field "primitives=" (a .primitives) ++ lastField " reals=" (a .reals)))
     (field "refused=" (a .reason) ++ lastField " place=" (a .place))
 
 -- the line of a record: its number, its links and its type, and then its name and the next of that name

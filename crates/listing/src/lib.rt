@@ -1,8 +1,10 @@
 // The lines of a listing, put into a lent buffer.
+use buffer::put_bytes;
 use buffer::put_field;
 use fields::put_kind;
 use fields::put_last;
 use fields::put_text;
+use scene::Mode;
 ghost use mathlib.Core.List.{_++_};
 ghost use mathlib.Core.Path.{_≡_};
 ghost use Prim.Native.Nat.{min};
@@ -10,31 +12,44 @@ ghost use lib.ListN.{length};
 ghost use Rattle.buffer.specs.Decimal.{decimal};
 ghost use Rattle.buffer.specs.Put.{put, behind};
 ghost use Rattle.laws.specs.Bytes.{bytes};
-ghost use Rattle.listing.specs.Listing.{headLine, lineOf, linksOf, rowLine};
+ghost use Rattle.listing.specs.Listing.{headLines, lineOf, linksOf, modeLine, rowLine};
 
-// The first line of a listing, as much of it as the buffer holds. Answers how many bytes that is.
-pub fn head_line(
+// The first lines of a listing, as much of them as the buffer holds. Answers how many bytes that is.
+pub fn head_lines(
     out: &mut [u8],
+    mode: Mode,
     reason: u32,
     place: usize,
     primitives: usize,
     reals: usize,
 ) -> usize
-    ensures { λ _. ⌜ now (out .exit) ≡ put (now (out .entry)) 0 (headLine (record { reason = reason; place = place; primitives = primitives; reals = reals })) ⌝ }
-    ensures { λ r. ⌜ r ≡ min (length (headLine (record { reason = reason; place = place; primitives = primitives; reals = reals }))) (length (now (out .entry))) ⌝ }
+    ensures { λ _. ⌜ now (out .exit) ≡ put (now (out .entry)) 0 (headLines mode (record { reason = reason; place = place; primitives = primitives; reals = reals })) ⌝ }
+    ensures { λ r. ⌜ r ≡ min (length (headLines mode (record { reason = reason; place = place; primitives = primitives; reals = reals }))) (length (now (out .entry))) ⌝ }
 {
     if reason == 0 {
-        return put_pair(out, b"primitives=", primitives, b" reals=", reals);
+        let at = put_mode(out, mode);
+        return put_pair(out, at, b"primitives=", primitives, b" reals=", reals);
     }
-    put_pair(out, b"refused=", reason as usize, b" place=", place)
+    put_pair(out, 0, b"refused=", reason as usize, b" place=", place)
+}
+
+// The line that tells an archive reading from a new one, which has none.
+fn put_mode(out: &mut [u8], mode: Mode) -> usize
+    ensures { λ _. ⌜ now (out .exit) ≡ put (now (out .entry)) 0 (modeLine mode) ⌝ }
+    ensures { λ r. ⌜ r ≡ behind (now (out .entry)) 0 (modeLine mode) ⌝ }
+{
+    match mode {
+        Mode::New => put_bytes(out, 0, b""),
+        Mode::Archive => put_bytes(out, 0, b"archive=1\n"),
+    }
 }
 
 // A line of two numbers.
-fn put_pair(out: &mut [u8], first: &[u8], n: usize, second: &[u8], m: usize) -> usize
-    ensures { λ _. ⌜ now (out .exit) ≡ put (now (out .entry)) 0 (now (first .entry) ++ decimal n ++ (now (second .entry) ++ decimal m ++ bytes "\n")) ⌝ }
-    ensures { λ r. ⌜ r ≡ min (length (now (first .entry) ++ decimal n ++ (now (second .entry) ++ decimal m ++ bytes "\n"))) (length (now (out .entry))) ⌝ }
+fn put_pair(out: &mut [u8], at: usize, first: &[u8], n: usize, second: &[u8], m: usize) -> usize
+    ensures { λ _. ⌜ now (out .exit) ≡ put (now (out .entry)) at (now (first .entry) ++ decimal n ++ (now (second .entry) ++ decimal m ++ bytes "\n")) ⌝ }
+    ensures { λ r. ⌜ r ≡ behind (now (out .entry)) at (now (first .entry) ++ decimal n ++ (now (second .entry) ++ decimal m ++ bytes "\n")) ⌝ }
 {
-    let behind_first = put_field(out, 0, first, n);
+    let behind_first = put_field(out, at, first, n);
     put_last(out, behind_first, second, m)
 }
 

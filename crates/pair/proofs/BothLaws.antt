@@ -11,6 +11,7 @@ use Rattle.scene.proofs.ImageLaws.{zero-records, zero-reals}
 use Rattle.scene.specs.HouseRules.{zeroReal}
 use Rattle.scene.specs.Reading.{Reading, accepted, refused}
 use Rattle.scene.specs.Record.{realImage, recordImage}
+use Rattle.scene.specs.declared.Mode.{Mode}
 use Rattle.pair.specs.Both.{ReadsBoth, beside, bothAnswer}
 use Rattle.pair.specs.declared.Both.the-variants.{Read, Refused}
 use Rattle.pair.specs.declared.Side.the-variants as on
@@ -25,15 +26,15 @@ beside-reals : (k n p : ℕ) (y : Reading) → replicate k zeroReal ≡ realImag
 beside-reals k n p (refused m q) = zero-reals k m q
 beside-reals k n p (accepted es) = zero-reals k n p
 
-module _ (left : Bytes) (lr : List ℕ) (lx : List Float) (right : Bytes) (rr : List ℕ) (rx : List Float) (lr′ : List ℕ) (lx′ : List Float) (rr′ : List ℕ) (rx′ : List Float) where
+module _ (mode : Mode) (left : Bytes) (lr : List ℕ) (lx : List Float) (right : Bytes) (rr : List ℕ) (rx : List Float) (lr′ : List ℕ) (lx′ : List Float) (rr′ : List ℕ) (rx′ : List Float) where
   abbrev x : Reading
-  x = readInto left lr lx
+  x = readInto mode left lr lx
 
   abbrev y : Reading
-  y = readInto right rr rx
+  y = readInto mode right rr rx
 
   -- the left scene is refused, and the right tables are cleared
-  pub left-refused : (n p : ℕ) → Reads left lr lx (reader.Refused n p) lr′ lx′ → rr′ ≡ replicate (length rr) 0 → rx′ ≡ replicate (length rx) zeroReal → ReadsBoth left lr lx right rr rx (Refused on.Left n p) lr′ lx′ rr′ rx′
+  pub left-refused : (n p : ℕ) → Reads mode left lr lx (reader.Refused n p) lr′ lx′ → rr′ ≡ replicate (length rr) 0 → rx′ ≡ replicate (length rx) zeroReal → ReadsBoth mode left lr lx right rr rx (Refused on.Left n p) lr′ lx′ rr′ rx′
   left-refused n p h c d =
       let e = refused-as x n p (h .says) in
       record {
@@ -45,7 +46,7 @@ module _ (left : Bytes) (lr : List ℕ) (lx : List Float) (right : Bytes) (rr : 
       }
 
   -- the right one is, after the left one was read into tables cleared since
-  pub right-refused : (m j n p : ℕ) (lr″ : List ℕ) (lx″ : List Float) → Reads left lr lx (reader.Accepted m j) lr″ lx″ → Reads right rr rx (reader.Refused n p) rr′ rx′ → lr′ ≡ replicate (length lr) 0 → lx′ ≡ replicate (length lx) zeroReal → ReadsBoth left lr lx right rr rx (Refused on.Right n p) lr′ lx′ rr′ rx′
+  pub right-refused : (m j n p : ℕ) (lr″ : List ℕ) (lx″ : List Float) → Reads mode left lr lx (reader.Accepted m j) lr″ lx″ → Reads mode right rr rx (reader.Refused n p) rr′ rx′ → lr′ ≡ replicate (length lr) 0 → lx′ ≡ replicate (length lx) zeroReal → ReadsBoth mode left lr lx right rr rx (Refused on.Right n p) lr′ lx′ rr′ rx′
   right-refused m j n p lr″ lx″ g h c d =
       let a = accepted-as x m j (g .says) in
       let e = refused-as y n p (h .says) in
@@ -57,7 +58,7 @@ module _ (left : Bytes) (lr : List ℕ) (lx : List Float) (right : Bytes) (rr : 
         rightDoubles = h .doubles ∙ ap (realImage (length rx)) e ∙ (λ i. realImage (length rx) (beside (sym e i) x));
       }
 
-  pub both-read : (m j n k : ℕ) → Reads left lr lx (reader.Accepted m j) lr′ lx′ → Reads right rr rx (reader.Accepted n k) rr′ rx′ → ReadsBoth left lr lx right rr rx (Read m j n k) lr′ lx′ rr′ rx′
+  pub both-read : (m j n k : ℕ) → Reads mode left lr lx (reader.Accepted m j) lr′ lx′ → Reads mode right rr rx (reader.Accepted n k) rr′ rx′ → ReadsBoth mode left lr lx right rr rx (Read m j n k) lr′ lx′ rr′ rx′
   both-read m j n k g h =
       let a = accepted-as x m j (g .says) in
       let b = accepted-as y n k (h .says) in

@@ -8,6 +8,7 @@ use Rattle.laws.specs.Bytes.{Bytes}
 use Rattle.reader.specs.Answer.{readInto}
 use Rattle.scene.specs.Reading.{Reading, refused, accepted}
 use Rattle.scene.specs.Record.{recordImage, realImage, realTable}
+use Rattle.scene.specs.declared.Mode.{Mode}
 use Rattle.pair.specs.declared.Both.{Both}
 use Rattle.pair.specs.declared.Both.the-variants.{Read, Refused}
 use Rattle.pair.specs.declared.Side.{Side}
@@ -39,10 +40,10 @@ beside (refused n p) b = refused n p
 beside (accepted es) (refused n p) = refused n p
 beside (accepted es) (accepted fs) = accepted es
 
--- the tables as they were lent, the answer, and the tables at exit
-pub record ReadsBoth (left : Bytes) (lr : List ℕ) (lx : List Float) (right : Bytes) (rr : List ℕ) (rx : List Float) (r : Both) (lr′ : List ℕ) (lx′ : List Float) (rr′ : List ℕ) (rx′ : List Float) : Type 0 where
-  pub says : r ≡ bothAnswer (readInto left lr lx) (readInto right rr rx)
-  pub leftTable : lr′ ≡ recordImage left (length lr) (beside (readInto left lr lx) (readInto right rr rx))
-  pub leftDoubles : lx′ ≡ realImage (length lx) (beside (readInto left lr lx) (readInto right rr rx))
-  pub rightTable : rr′ ≡ recordImage right (length rr) (beside (readInto right rr rx) (readInto left lr lx))
-  pub rightDoubles : rx′ ≡ realImage (length rx) (beside (readInto right rr rx) (readInto left lr lx))
+-- the mode, "the same for all its texts", the texts, the tables as they were lent, the answer, and the tables at exit
+pub record ReadsBoth (mode : Mode) (left : Bytes) (lr : List ℕ) (lx : List Float) (right : Bytes) (rr : List ℕ) (rx : List Float) (r : Both) (lr′ : List ℕ) (lx′ : List Float) (rr′ : List ℕ) (rx′ : List Float) : Type 0 where
+  pub says : r ≡ bothAnswer (readInto mode left lr lx) (readInto mode right rr rx)
+  pub leftTable : lr′ ≡ recordImage left (length lr) (beside (readInto mode left lr lx) (readInto mode right rr rx))
+  pub leftDoubles : lx′ ≡ realImage (length lx) (beside (readInto mode left lr lx) (readInto mode right rr rx))
+  pub rightTable : rr′ ≡ recordImage right (length rr) (beside (readInto mode right rr rx) (readInto mode left lr lx))
+  pub rightDoubles : rx′ ≡ realImage (length rx) (beside (readInto mode right rr rx) (readInto mode left lr lx))

@@ -31,7 +31,7 @@ endOf ph n = cond (isIdle ph) to.Ended (to.Refused 5 n)
 -- the step of each phase
 abbrev pub stepOf : Phase → Bytes → Settings → State → Seen → Step
 stepOf is.Idle w room s v = modifierStep w (room .records) s v
-stepOf is.Kind w room s v = kindStep w s v
+stepOf is.Kind w room s v = kindStep w (room .mode) s v
 stepOf is.Name w room s v = nameStep is.StringCount w s v
 stepOf is.StringCount w room s v = stringCountStep w s v
 stepOf is.FirstString w room s v = stringStep s (withString (s .draft) (v .name))

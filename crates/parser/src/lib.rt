@@ -28,7 +28,10 @@ fn advance(word: &[u8], settings: Settings, s: State, v: Seen) -> Step
     let phase = s.phase;
     match phase {
         Phase::Idle => statement::modifier(word, settings.records, s, v),
-        Phase::Kind => statement::kind(word, s, v),
+        Phase::Kind => {
+            let mode = settings.mode;
+            statement::kind(word, mode, s, v)
+        }
         Phase::Name => statement::name(Phase::StringCount, word, s, v),
         Phase::StringCount => arguments::string_count(word, s, v),
         Phase::FirstString => arguments::first_string(s, v),

@@ -18,9 +18,10 @@ use Rattle.scene.specs.HouseRules.{zeroReal}
 use Rattle.scene.specs.Reading.{read, Entry, accepted}
 use Rattle.scene.specs.Record.{recordIn, records, realImage, nth, answer, recordImage, realTable, settingsFor, Answer as Numbers}
 use Rattle.scene.specs.Told.{tells, renumbered}
+use Rattle.scene.specs.declared.Mode.{Mode}
 
 -- what a call on an accepted text shows
-module _ (text : Bytes) (lent : List ℕ) (doubles : List Float) (r : Answer) (table : List ℕ) (reals : List Float) (R : Reads text lent doubles r table reals) (es : List Entry) (e : readInto text lent doubles ≡ accepted es) where
+module _ (mode : Mode) (text : Bytes) (lent : List ℕ) (doubles : List Float) (r : Answer) (table : List ℕ) (reals : List Float) (R : Reads mode text lent doubles r table reals) (es : List Entry) (e : readInto mode text lent doubles ≡ accepted es) where
   says-of : r ≡ Accepted (length es) (length (realTable es))
   says-of = R .says ∙ ap answered e
 
@@ -33,11 +34,11 @@ module _ (text : Bytes) (lent : List ℕ) (doubles : List Float) (r : Answer) (t
   reals-of k q = (λ i. take (q i) ((R .doubles ∙ ap (realImage (length doubles)) e) i)) ∙ take-append-seam (realTable es) (replicate (length doubles - length (realTable es)) zeroReal)
 
 pub reader-exchange : ReaderExchange
-reader-exchange p a b q es lent lent′ doubles doubles′ l d E n k table reals R r table′ reals′ R′ = record {
-  accepts = says-of new lent′ doubles′ r table′ reals′ R′ es′ e′ ∙ (λ i. Accepted (X .primitives i) (X .reals i)) ∙ sym (says-of old lent doubles (Accepted n k) table reals R es e);
-  rows = λ i h g. (λ j. tells new (reals-of new lent′ doubles′ r table′ reals′ R′ es′ e′ k (counts .1 ∙ sym (X .reals)) j) (row-of new lent′ doubles′ r table′ reals′ R′ es′ e′ (exchangeShift es p a b i) j))
+reader-exchange mode p a b q es lent lent′ doubles doubles′ l d E n k table reals R r table′ reals′ R′ = record {
+  accepts = says-of mode new lent′ doubles′ r table′ reals′ R′ es′ e′ ∙ (λ i. Accepted (X .primitives i) (X .reals i)) ∙ sym (says-of mode old lent doubles (Accepted n k) table reals R es e);
+  rows = λ i h g. (λ j. tells new (reals-of mode new lent′ doubles′ r table′ reals′ R′ es′ e′ k (counts .1 ∙ sym (X .reals)) j) (row-of mode new lent′ doubles′ r table′ reals′ R′ es′ e′ (exchangeShift es p a b i) j))
       ∙ X .rows i h (omega (arith, counts .0))
-      ∙ (λ j. renumbered (exchangeShift es p a b) (tells old (sym (reals-of old lent doubles (Accepted n k) table reals R es e k (counts .1)) j) (sym (row-of old lent doubles (Accepted n k) table reals R es e i) j)));
+      ∙ (λ j. renumbered (exchangeShift es p a b) (tells old (sym (reals-of mode old lent doubles (Accepted n k) table reals R es e k (counts .1)) j) (sym (row-of mode old lent doubles (Accepted n k) table reals R es e i) j)));
 }
   where
     old : Bytes
@@ -46,17 +47,17 @@ reader-exchange p a b q es lent lent′ doubles doubles′ l d E n k table reals
     new : Bytes
     new = p ++ b ++ a ++ q
 
-    e : readInto old lent doubles ≡ accepted es
+    e : readInto mode old lent doubles ≡ accepted es
     e = E .reads
 
     es′ : List Entry
-    es′ = exchange-law (settingsFor (length lent) (length doubles)) p a b q es E .entries
+    es′ = exchange-law (settingsFor mode (length lent) (length doubles)) p a b q es E .entries
 
-    X : Renumbers (settingsFor (length lent) (length doubles)) (p ++ a ++ b ++ q) (p ++ b ++ a ++ q) es es′ (exchangeShift es p a b)
-    X = exchange-law (settingsFor (length lent) (length doubles)) p a b q es E .renumbers
+    X : Renumbers (settingsFor mode (length lent) (length doubles)) (p ++ a ++ b ++ q) (p ++ b ++ a ++ q) es es′ (exchangeShift es p a b)
+    X = exchange-law (settingsFor mode (length lent) (length doubles)) p a b q es E .renumbers
 
-    e′ : readInto new lent′ doubles′ ≡ accepted es′
-    e′ = (λ i. read (settingsFor (l i) (d i)) new) ∙ X .reads
+    e′ : readInto mode new lent′ doubles′ ≡ accepted es′
+    e′ = (λ i. read (settingsFor mode (l i) (d i)) new) ∙ X .reads
 
     counts : (n ≡ length es) × (k ≡ length (realTable es))
     counts = let h = R .numbers ∙ ap answer e in (ap (λ (z : Numbers). z .primitives) h, ap (λ (z : Numbers). z .reals) h)

@@ -2,3 +2,4 @@ pub mod ReadsLaws
 pub mod EndLaws
 pub mod ExchangeLaws
 pub mod LinkLaws
+pub mod ArchiveLaws

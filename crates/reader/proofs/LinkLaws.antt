@@ -17,12 +17,13 @@ use Rattle.scene.specs.Properties.{LatestBelow, Named, NextAbove, numbered}
 use Rattle.scene.specs.Reading.{Entry, accepted, statements}
 use Rattle.scene.specs.Record.{Record, settingsFor}
 use Rattle.scene.specs.Statement.{Statement}
+use Rattle.scene.specs.declared.Mode.{Mode}
 
-module _ (text : Bytes) (lent : List ℕ) (doubles : List Float) (a : Answer) (table : List ℕ) (reals : List Float) (R : Reads text lent doubles a table reals) (es : List Entry) (e : readInto text lent doubles ≡ accepted es) (k : ℕ) (s : Statement) (there : numbered (statements es) k ≡ some s) where
+module _ (mode : Mode) (text : Bytes) (lent : List ℕ) (doubles : List Float) (a : Answer) (table : List ℕ) (reals : List Float) (R : Reads mode text lent doubles a table reals) (es : List Entry) (e : readInto mode text lent doubles ≡ accepted es) (k : ℕ) (s : Statement) (there : numbered (statements es) k ≡ some s) where
   row-links : RowLinks (statements es) table k s
   row-links =
-      let r = settingsFor (length lent) (length doubles) in
-      let q = row-of text lent doubles a table reals R es e k in
+      let r = settingsFor mode (length lent) (length doubles) in
+      let q = row-of mode text lent doubles a table reals R es e k in
       record {
         noModifier = λ v. ap (λ (z : Record). z .modifier) q ∙ modifier-void r text es e k s there v;
         modifier = λ v. subst (λ (z : Record). LatestBelow (statements es) k (s .modifier) (z .modifier)) (sym q) (modifier-latest r text es e k s there v);
@@ -33,6 +34,6 @@ module _ (text : Bytes) (lent : List ℕ) (doubles : List Float) (a : Answer) (t
       }
 
 pub reader-links : ReaderLinks
-reader-links text lent doubles n k table reals R =
-    let a = accepted-as (readInto text lent doubles) n k (R .says) in
-    record { entries = a .entries; reads = a .reads; rows = row-links text lent doubles _ table reals R (a .entries) (a .reads) }
+reader-links mode text lent doubles n k table reals R =
+    let a = accepted-as (readInto mode text lent doubles) n k (R .says) in
+    record { entries = a .entries; reads = a .reads; rows = row-links mode text lent doubles _ table reals R (a .entries) (a .reads) }

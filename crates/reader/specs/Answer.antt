@@ -9,6 +9,7 @@ use Rattle.reader.specs.declared.Answer.{Answer}
 use Rattle.reader.specs.declared.Answer.the-variants.{Accepted, Refused}
 use Rattle.scene.specs.Reading.{read, Reading, refused, accepted}
 use Rattle.scene.specs.Record.{answer, recordImage, realImage, realTable, settingsFor, Answer as Numbers}
+use Rattle.scene.specs.declared.Mode.{Mode}
 
 -- the answer that a reading comes to
 abbrev pub answered : Reading → Answer
@@ -20,13 +21,13 @@ abbrev pub numbersOf : Answer → Numbers
 numbersOf (Refused n p) = record { reason = n; place = p; primitives = 0; reals = 0 }
 numbersOf (Accepted n k) = record { reason = 0; place = 0; primitives = n; reals = k }
 
--- what a text means at the sizes of two lent tables
-abbrev pub readInto : Bytes → List ℕ → List Float → Reading
-readInto text records reals = read (settingsFor (length records) (length reals)) text
+-- what a text means in a mode, at the sizes of two lent tables
+abbrev pub readInto : Mode → Bytes → List ℕ → List Float → Reading
+readInto mode text records reals = read (settingsFor mode (length records) (length reals)) text
 
--- demands 1 and 2 of one call: the tables as they were lent, the answer, and the tables at exit
-pub record Reads (text : Bytes) (records : List ℕ) (reals : List Float) (r : Answer) (records′ : List ℕ) (reals′ : List Float) : Type 0 where
-  pub says : r ≡ answered (readInto text records reals)
-  pub numbers : numbersOf r ≡ answer (readInto text records reals)
-  pub table : records′ ≡ recordImage text (length records) (readInto text records reals)
-  pub doubles : reals′ ≡ realImage (length reals) (readInto text records reals)
+-- demands 1 and 2 of one call: the mode, the text, the tables as they were lent, the answer, and the tables at exit
+pub record Reads (mode : Mode) (text : Bytes) (records : List ℕ) (reals : List Float) (r : Answer) (records′ : List ℕ) (reals′ : List Float) : Type 0 where
+  pub says : r ≡ answered (readInto mode text records reals)
+  pub numbers : numbersOf r ≡ answer (readInto mode text records reals)
+  pub table : records′ ≡ recordImage text (length records) (readInto mode text records reals)
+  pub doubles : reals′ ≡ realImage (length reals) (readInto mode text records reals)

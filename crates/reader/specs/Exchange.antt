@@ -12,6 +12,7 @@ use Rattle.scene.specs.Exchange.{Exchange, exchangeShift}
 use Rattle.scene.specs.Reading.{Entry}
 use Rattle.scene.specs.Record.{recordIn, settingsFor}
 use Rattle.scene.specs.Told.{tells, renumbered}
+use Rattle.scene.specs.declared.Mode.{Mode}
 
 -- The second call accepts with the counts of the first, and what its text and tables tell of record f i is what the first's
 -- tell of record i, with modifier link, alias target and next renumbered
@@ -19,11 +20,11 @@ pub record SameButNumbers (old new : Bytes) (f : ℕ → ℕ) (n k : ℕ) (table
   pub accepts : r ≡ Accepted n k
   pub rows : (i : ℕ) → 0 < i → i ≤ n → tells new (take k reals′) (recordIn table′ (f i)) ≡ renumbered f (tells old (take k reals) (recordIn table i))
 
--- for every accepted text, two neighbouring independent blocks of it, and any two calls on tables of the same lengths
+-- for either mode, every accepted text, two neighbouring independent blocks of it, and any two calls on tables of the same lengths
 abbrev pub ReaderExchange : Type 0
-ReaderExchange = (p a b q : Bytes) (es : List Entry) (lent lent′ : List ℕ) (doubles doubles′ : List Float)
+ReaderExchange = (mode : Mode) (p a b q : Bytes) (es : List Entry) (lent lent′ : List ℕ) (doubles doubles′ : List Float)
     → length lent′ ≡ length lent → length doubles′ ≡ length doubles
-    → Exchange (settingsFor (length lent) (length doubles)) p a b q es
-    → (n k : ℕ) (table : List ℕ) (reals : List Float) → Reads (p ++ a ++ b ++ q) lent doubles (Accepted n k) table reals
-    → (r : Answer) (table′ : List ℕ) (reals′ : List Float) → Reads (p ++ b ++ a ++ q) lent′ doubles′ r table′ reals′
+    → Exchange (settingsFor mode (length lent) (length doubles)) p a b q es
+    → (n k : ℕ) (table : List ℕ) (reals : List Float) → Reads mode (p ++ a ++ b ++ q) lent doubles (Accepted n k) table reals
+    → (r : Answer) (table′ : List ℕ) (reals′ : List Float) → Reads mode (p ++ b ++ a ++ q) lent′ doubles′ r table′ reals′
     → SameButNumbers (p ++ a ++ b ++ q) (p ++ b ++ a ++ q) (exchangeShift es p a b) n k table reals r table′ reals′

@@ -2,3 +2,4 @@
 pub mod Answer
 pub mod Exchange
 pub mod Links
+pub mod Archive

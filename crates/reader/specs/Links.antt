@@ -14,6 +14,7 @@ use Rattle.scene.specs.Properties.{LatestBelow, Named, NextAbove, numbered}
 use Rattle.scene.specs.Reading.{Entry, accepted, statements}
 use Rattle.scene.specs.Record.{recordIn}
 use Rattle.scene.specs.Statement.{Literal, Statement, alias, primitive, void}
+use Rattle.scene.specs.declared.Mode.{Mode}
 
 -- record k, of statement s among the statements d
 pub record RowLinks (d : List Statement) (table : List ℕ) (k : ℕ) (s : Statement) : Type 0 where
@@ -25,12 +26,12 @@ pub record RowLinks (d : List Statement) (table : List ℕ) (k : ℕ) (s : State
   pub next : gives s ≡ true → ((recordIn table k .next ≡ 0) × ((m : ℕ) → k < m → Named d m (s .name) → ⊥)) ⊎ NextAbove d k (s .name) (recordIn table k .next)
 
 -- the text is read as some entries, and each record's links are right among their statements
-pub record TableLinks (text : Bytes) (lent : List ℕ) (doubles : List Float) (table : List ℕ) : Type 0 where
+pub record TableLinks (mode : Mode) (text : Bytes) (lent : List ℕ) (doubles : List Float) (table : List ℕ) : Type 0 where
   pub entries : List Entry
-  pub reads : readInto text lent doubles ≡ accepted entries
+  pub reads : readInto mode text lent doubles ≡ accepted entries
   pub rows : (k : ℕ) (s : Statement) → numbered (statements entries) k ≡ some s → RowLinks (statements entries) table k s
 
--- for every call that accepts
+-- for every call that accepts, in either mode
 abbrev pub ReaderLinks : Type 0
-ReaderLinks = (text : Bytes) (lent : List ℕ) (doubles : List Float) (n k : ℕ) (table : List ℕ) (reals : List Float)
-    → Reads text lent doubles (Accepted n k) table reals → TableLinks text lent doubles table
+ReaderLinks = (mode : Mode) (text : Bytes) (lent : List ℕ) (doubles : List Float) (n k : ℕ) (table : List ℕ) (reals : List Float)
+    → Reads mode text lent doubles (Accepted n k) table reals → TableLinks mode text lent doubles table

@@ -1,5 +1,5 @@
--- Exchanges at work, one that changes nothing, one that the condition keeps out and one that the comparison sees; and a sphere that is
--- named like a paint.
+-- Exchanges at work, one that changes nothing, one that the condition keeps out and one that the comparison sees; a sphere that is
+-- named like a paint; and a cut-out.
 use Rattle.laws.specs.Bytes.{Bytes, bytes}
 
 -- ---- an exchange that changes nothing but numbering
@@ -36,3 +36,8 @@ small = bytes "void sphere knob 0 0 4 0 0 0 1\n"
 
 abbrev pub large : Bytes
 large = bytes "void sphere knob 0 0 4 0 0 0 2\n"
+
+-- ---- an opening cut out of the desk's front, and an alias of it
+
+abbrev pub cutout : Bytes
+cutout = bytes "void antimatter hole 1 deskfront 0 0\nvoid alias slot hole\n"

@@ -4,18 +4,20 @@ use input::Loaded;
 use pair::Both;
 use pair::Side;
 use reader::Answer;
+use scene::Mode;
 use table::MOST_BYTES;
 use table::MOST_NUMBERS;
 use table::MOST_REALS;
 use table::first_records;
 
 // Compares two texts, and prints the lines or the refusal.
-fn compare<'a>(left: &'a [u8], right: &'a [u8]) -> bool {
+fn compare<'a>(mode: Mode, left: &'a [u8], right: &'a [u8]) -> bool {
     let mut left_records = [0u32; MOST_NUMBERS];
     let mut left_reals = [0.0f64; MOST_REALS];
     let mut right_records = [0u32; MOST_NUMBERS];
     let mut right_reals = [0.0f64; MOST_REALS];
     match pair::read_both(
+        mode,
         left,
         &mut left_records,
         &mut left_reals,
@@ -36,41 +38,41 @@ fn compare<'a>(left: &'a [u8], right: &'a [u8]) -> bool {
 }
 
 // The left text read alone, as its refusal comes first where the right one is too long or cannot be read.
-fn left_refusal(left: &[u8]) -> Answer {
+fn left_refusal(mode: Mode, left: &[u8]) -> Answer {
     let mut records = [0u32; MOST_NUMBERS];
     let mut reals = [0.0f64; MOST_REALS];
-    reader::read(left, &mut records, &mut reals)
+    reader::read(mode, left, &mut records, &mut reals)
 }
 
 // The left text's refusal comes first.
-fn print_too_long(left: &[u8]) -> bool {
-    match left_refusal(left) {
+fn print_too_long(mode: Mode, left: &[u8]) -> bool {
+    match left_refusal(mode, left) {
         Answer::Accepted(_, _) => report::print_refusal(Side::Right, 1, 0),
         Answer::Refused(reason, place) => report::print_refusal(Side::Left, reason, place),
     }
 }
 
-fn print_unreadable(left: &[u8]) -> bool {
-    match left_refusal(left) {
+fn print_unreadable(mode: Mode, left: &[u8]) -> bool {
+    match left_refusal(mode, left) {
         Answer::Accepted(_, _) => report::print_unreadable(Side::Right),
         Answer::Refused(reason, place) => report::print_refusal(Side::Left, reason, place),
     }
 }
 
-fn compare_with_right(left: &[u8], argument: usize) -> bool {
+fn compare_with_right(mode: Mode, left: &[u8], argument: usize) -> bool {
     let mut right = [0u8; MOST_BYTES];
     match input::load_argument(argument, &mut right) {
-        Loaded::Text(n) => compare(left, lexer::part(&right, 0, n)),
-        Loaded::TooLong => print_too_long(left),
-        Loaded::Unreadable => print_unreadable(left),
+        Loaded::Text(n) => compare(mode, left, lexer::part(&right, 0, n)),
+        Loaded::TooLong => print_too_long(mode, left),
+        Loaded::Unreadable => print_unreadable(mode, left),
     }
 }
 
-// Compares the files that two arguments name.
-pub fn compare_arguments(left_argument: usize, right_argument: usize) -> bool {
+// Compares the files that two arguments name, both read in one mode.
+pub fn compare_arguments(mode: Mode, left_argument: usize, right_argument: usize) -> bool {
     let mut left = [0u8; MOST_BYTES];
     match input::load_argument(left_argument, &mut left) {
-        Loaded::Text(n) => compare_with_right(lexer::part(&left, 0, n), right_argument),
+        Loaded::Text(n) => compare_with_right(mode, lexer::part(&left, 0, n), right_argument),
         Loaded::TooLong => report::print_refusal(Side::Left, 1, 0),
         Loaded::Unreadable => report::print_unreadable(Side::Left),
     }

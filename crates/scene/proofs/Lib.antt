@@ -22,3 +22,4 @@ pub mod ReadingLaws
 pub mod LowestLaws
 pub mod PropertyLaws
 pub mod MeaningLaws
+pub mod ModeLaws

@@ -28,8 +28,9 @@ use Rattle.scene.specs.Links.{hits, found, head, definition, resolve, th
 use Rattle.scene.specs.Phase.{Part, atType, atName, atStringCount, atString, atIntegerCount, atRealCount, atReal, atAliasName, atTarget, Phase, idle, busy, Turn, fault, onto, ends, typed, strings, stringCount, integerCount, reals, realCount, real, turn, Outcome, refuse, into, done, outcome, taken, unlessFault, word}
 use Rattle.scene.specs.Reading.{Move, keep, first, command, ended, targetTest, test, Entry, Going, State, stopped, going, statements, settle, advance, initial, accepted, newline, read}
 use Rattle.scene.specs.Record.{realTable}
+use Rattle.scene.specs.declared.Mode.{Mode}
 use Rattle.scene.specs.declared.Settings.{Settings}
-use Rattle.scene.specs.Types.{Kind, types, typeNumber, numberFrom, stringsAllowed, realsAllowed, isSurface}
+use Rattle.scene.specs.Types.{Kind, types, typeNumber, numberFrom, stringsAllowed, realsAllowed, isRetired, isSurface}
 use Rattle.scene.specs.Statement.{Literal, literal, numbers, Body, primitive, alias, Statement, void}
 use Rattle.scene.specs.Record as record·
 
@@ -89,9 +90,9 @@ OfTurn (fault n) = Unit {0}
 OfTurn (onto p) = AtPart p
 OfTurn (ends n b) = Meant b
 
-typed-meant : (w : Bytes) (k : ℕ) → typeNumber w ≡ k → OfTurn (typed k)
-typed-meant w zero e = tt
-typed-meant w (suc k) e = type-range w k e
+typed-meant : (m : Mode) (w : Bytes) (k : ℕ) → typeNumber w ≡ k → OfTurn (typed m k)
+typed-meant m w zero e = tt
+typed-meant m w (suc k) e = cond-elim OfTurn (isRetired m (suc k)) tt (type-range w k e)
 
 strings-meant : (t : ℕ) (n : Bytes) (k : ℕ) → IsType t → OfTurn (strings t n k)
 strings-meant t n zero h = h
@@ -123,7 +124,7 @@ real-meant t n ss rs k w (refusal c) e h v = tt
 real-meant t n ss rs k w (value x) e h v = cond-elim OfTurn (breach t (numbers (rs ++ literal w x ∷ []))) tt (reals-meant t n ss (rs ++ literal w x ∷ []) k h (valued-more rs w x v e))
 
 turn-meant : (r : Settings) (p : Part) (w : Bytes) → AtPart p → OfTurn (turn r p w)
-turn-meant r atType w h = cond-elim OfTurn (same w (bytes "alias")) tt (typed-meant w (typeNumber w) refl)
+turn-meant r atType w h = cond-elim OfTurn (same w (bytes "alias")) tt (typed-meant (r .mode) w (typeNumber w) refl)
 turn-meant r (atName t) w h = cond-elim OfTurn (same w void) tt h
 turn-meant r (atStringCount t n) w h = stringCount-meant t n (countOf w) h
 turn-meant r (atString t n ss zero) w h = h

@@ -19,9 +19,10 @@ use Rattle.scene.specs.HouseRules.{breach}
 use Rattle.scene.specs.Links.{stringsIn}
 use Rattle.scene.specs.Phase.{Part, atType, atName, atStringCount, atString, atIntegerCount, atRealCount, atReal, atAliasName, atTarget, Turn, typed, strings, stringCount, integerCount, reals, realCount, real, turn}
 use Rattle.scene.specs.Reading.{Places, notePart, Entry, Going, going, run, initial, newline}
+use Rattle.scene.specs.declared.Mode.{Mode}
 use Rattle.scene.specs.declared.Settings.{Settings}
 use Rattle.scene.specs.Told.{wordsFrom}
-use Rattle.scene.specs.Types.{typeNumber, stringsAllowed, realsAllowed}
+use Rattle.scene.specs.Types.{typeNumber, stringsAllowed, realsAllowed, isRetired}
 use Rattle.scene.specs.Statement.{Literal, literal, numbers, Body, void}
 
 -- ---- words of a text in two pieces
@@ -184,9 +185,9 @@ module _ (c : Bytes) (k : Places) (t : ℕ) (n : Bytes) (ss : List Bytes) (h : S
   real-hold rs j w (refusal c) = tt
   real-hold rs j w (value v) = cond-elim (TurnRead c k) (breach t (numbers (rs ++ literal w v ∷ []))) tt (reals-hold (rs ++ literal w v ∷ []) j)
 
-typed-hold : (c : Bytes) (k : Places) (t : ℕ) → TurnRead c k (typed t)
-typed-hold c k zero = tt
-typed-hold c k (suc t) = tt
+typed-hold : (c : Bytes) (k : Places) (m : Mode) (t : ℕ) → TurnRead c k (typed m t)
+typed-hold c k m zero = tt
+typed-hold c k m (suc t) = cond-elim (TurnRead c k) (isRetired m (suc t)) tt tt
 
 module _ (c : Bytes) (b : ℕ) where
   both-more : (k : ℕ) (n : Bytes) (l : ℕ) (ss : List Bytes) → Says c k n × Spelt c l ss → Says (more c b) k n × Spelt (more c b) l ss
@@ -234,7 +235,7 @@ module _ (c : Bytes) (b : ℕ) where
   name-ends k w q h = subst (λ n. Says (more c b) n w) (sym q) (ends-says c b (k .word) w h)
 
   end-more : (r : Settings) (k : Places) (w : Bytes) (p : Part) → isBlank b ≡ true → Ends c (k .word) w → PartWithin c k w p → TurnRead (more c b) k (turn r p w)
-  end-more r k w atType e x h = cond-elim (TurnRead (more c b) k) (same w (bytes "alias")) tt (typed-hold (more c b) k (typeNumber w))
+  end-more r k w atType e x h = cond-elim (TurnRead (more c b) k) (same w (bytes "alias")) tt (typed-hold (more c b) k (r .mode) (typeNumber w))
   end-more r k w (atName t) e x h = cond-elim (TurnRead (more c b) k) (same w void) tt (name-ends k w h x)
   end-more r k w (atStringCount t n) e x h = stringCount-hold (more c b) k t n (countOf w) (says-more c b (k .name) n h)
   end-more r k w (atString t n ss zero) e x h = (says-more c b (k .name) n (h .0), spelling-spelt (more c b) (k .string) (ss ++ w ∷ []) between (spelling-more c b (k .string) ss (Spot.inside w) true e (h .1)))

@@ -18,9 +18,10 @@ use Rattle.scene.proofs.WordsLaws.{Spot, between, inside}
 use Rattle.scene.specs.HouseRules.{breach}
 use Rattle.scene.specs.Phase.{Part, atType, atName, atStringCount, atString, atIntegerCount, atRealCount, atReal, atAliasName, atTarget, Turn, typed, strings, stringCount, integerCount, reals, realCount, real, turn}
 use Rattle.scene.specs.Reading.{Places, notePart, Entry, newline, accepted, read}
+use Rattle.scene.specs.declared.Mode.{Mode}
 use Rattle.scene.specs.declared.Settings.{Settings}
 use Rattle.scene.specs.Statement.{Literal, literal, numbers, numeralWords, Body, primitive, alias, void}
-use Rattle.scene.specs.Types.{typeNumber, stringsAllowed, realsAllowed}
+use Rattle.scene.specs.Types.{typeNumber, stringsAllowed, realsAllowed, isRetired}
 
 -- ---- the words of a primitive from its name on
 
@@ -80,9 +81,9 @@ TurnHeard c k t = TurnHolds GapHeard BodyRead c k t
 -- ---- the words that a part can turn to
 
 module _ (c : Bytes) (k : Places) where
-  typed-heard : (t : ℕ) → TurnHeard c k (typed t)
-  typed-heard zero = tt
-  typed-heard (suc t) = tt
+  typed-heard : (m : Mode) (t : ℕ) → TurnHeard c k (typed m t)
+  typed-heard m zero = tt
+  typed-heard m (suc t) = cond-elim (TurnHeard c k) (isRetired m (suc t)) tt tt
 
   module _ (t : ℕ) (n : Bytes) where
     strings-heard : (x : Bytes) (j : ℕ) → Spelling c (k .name) (n ∷ x ∷ []) between → TurnHeard c k (strings t n j)
@@ -165,7 +166,7 @@ module _ (c : Bytes) (b : ℕ) where
         (x, y, z, subst (λ (l : List Bytes). Spelling (more c b) (k .name) l between) q (end-more (u ++ numeralWords rs) h))
 
     turn-heard : (r : Settings) (p : Part) → WithinHeard c k w p → TurnHeard (more c b) k (turn r p w)
-    turn-heard r atType h = cond-elim (TurnHeard (more c b) k) (same w (bytes "alias")) tt (typed-heard (more c b) k (typeNumber w))
+    turn-heard r atType h = cond-elim (TurnHeard (more c b) k) (same w (bytes "alias")) tt (typed-heard (more c b) k (r .mode) (typeNumber w))
     turn-heard r (atName t) h = cond-elim (TurnHeard (more c b) k) (same w void) tt (end-more [] h)
     turn-heard r (atStringCount t n) h = stringCount-heard (more c b) k t n w (countOf w) (end-more (n ∷ []) h)
     turn-heard r (atString t n ss zero) (x, h) = (x, end-more (n ∷ x ∷ ss) h)

@@ -19,7 +19,7 @@ use Rattle.scene.specs.Links.{definition, realsUsed}
 use Rattle.scene.specs.Phase.{Part, atType, atName, atStringCount, atString, atIntegerCount, atRealCount, atReal, atAliasName, atTarget, Phase, idle, busy, Turn, fault, onto, ends, typed, strings, stringCount, integerCount, reals, realCount, real, turn, Outcome, refuse, into, done, outcome, taken, word, unlessFault}
 use Rattle.scene.specs.Reading.{Scan, gap, within, Move, keep, first, command, ended, move, targetTest, roomTest, partTest, test, Going, State, stopped, going, statements, settle, advance, run}
 use Rattle.scene.specs.declared.Settings.{Settings}
-use Rattle.scene.specs.Types.{typeNumber, stringsAllowed, realsAllowed}
+use Rattle.scene.specs.Types.{typeNumber, stringsAllowed, realsAllowed, isRetired}
 use Rattle.scene.specs.Statement.{void, Literal, literal, numbers, Body, primitive, alias, Statement}
 
 -- ---- the syntax as a machine of its own. The finished statements stand latest first.
@@ -167,9 +167,9 @@ grown u n k rs v e = simp length-append (omega arith)
 
 module _ (r : Settings) (d : List Statement) where
   -- forth: a word that passes its test keeps what holds
-  typed-forth : (n : ℕ) → OfTurn (Unit {0}) r d (typed n)
+  typed-forth : (n : ℕ) → OfTurn (Unit {0}) r d (typed (r .mode) n)
   typed-forth zero = tt
-  typed-forth (suc n) = tt
+  typed-forth (suc n) = cond-elim (OfTurn (Unit {0}) r d) (isRetired (r .mode) (suc n)) tt tt
 
   strings-forth : (t : ℕ) (n : Bytes) (k : ℕ) → OfTurn (Unit {0}) r d (strings t n k)
   strings-forth t n zero = tt

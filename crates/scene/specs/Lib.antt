@@ -10,3 +10,4 @@ pub mod Record
 pub mod Told
 pub mod Block
 pub mod Exchange
+pub mod Archive

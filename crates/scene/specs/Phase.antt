@@ -8,8 +8,9 @@ use Rattle.lexer.specs.Word.{wordFault}
 use Rattle.numeral.specs.Count.{countOf}
 use Rattle.numeral.specs.Numeral.{Answer, value, refusal, numeralOf}
 use Rattle.scene.specs.HouseRules.{breach}
+use Rattle.scene.specs.declared.Mode.{Mode}
 use Rattle.scene.specs.declared.Settings.{Settings}
-use Rattle.scene.specs.Types.{typeNumber, stringsAllowed, realsAllowed}
+use Rattle.scene.specs.Types.{typeNumber, stringsAllowed, realsAllowed, isRetired}
 use Rattle.scene.specs.Statement.{Literal, literal, numbers, Body, primitive, alias, Statement, void}
 
 -- which word of a statement comes next, with what was read before it and how many of its kind come after it
@@ -35,10 +36,10 @@ pub data Turn : Type 0 where
   onto : Part → Turn
   ends : (name : Bytes) → Body → Turn
 
--- "8 unknown type"
-abbrev pub typed : ℕ → Turn
-typed zero = fault 8
-typed (suc t) = onto (atName (suc t))
+-- "8 unknown type"; "28 at the type word [..], new reading only"
+abbrev pub typed : Mode → ℕ → Turn
+typed m zero = fault 8
+typed m (suc t) = cond (isRetired m (suc t)) (fault 28) (onto (atName (suc t)))
 
 abbrev pub strings : ℕ → Bytes → ℕ → Turn
 strings t n zero = onto (atIntegerCount t n [])
@@ -73,7 +74,7 @@ abbrev pub named : Bytes → Part → Turn
 named w next = cond (same w void) (fault 9) (onto next)
 
 abbrev pub turn : Settings → Part → Bytes → Turn
-turn r atType w = cond (same w (bytes "alias")) (onto atAliasName) (typed (typeNumber w))
+turn r atType w = cond (same w (bytes "alias")) (onto atAliasName) (typed (r .mode) (typeNumber w))
 turn r (atName t) w = named w (atStringCount t w)
 turn r (atStringCount t n) w = stringCount t n (countOf w)
 turn r (atString t n ss zero) w = onto (atIntegerCount t n (ss ++ w ∷ []))

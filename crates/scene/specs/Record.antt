@@ -9,6 +9,7 @@ use Rattle.laws.specs.Bytes.{Bytes, part}
 use Rattle.scene.specs.HouseRules.{zeroReal}
 use Rattle.scene.specs.Links.{gives, firstLater, modifierLink, targetLink, source, ownBody, typeIn, stringsIn, realsIn, realsUsed}
 use Rattle.scene.specs.Reading.{Entry, statements, Reading, refused, accepted}
+use Rattle.scene.specs.declared.Mode.{Mode}
 use Rattle.scene.specs.declared.Settings.{Settings}
 use Rattle.scene.specs.Statement.{Statement}
 
@@ -134,13 +135,13 @@ nameIn text table n = part text (recordIn table n .name) (recordIn table n .name
 -- ---- the lent tables
 
 -- "Record room is the lesser of 1,024 and the lent length over 10, rounded down; real room the lesser of 4,096 and the lent
--- length."
-abbrev pub settingsFor : (lentRecords lentReals : ℕ) → Settings
-settingsFor n m = record { records = min 1024 (n / width); reals = min 4096 m }
+-- length"; "Every call that reads, later ones too, takes either reading"
+abbrev pub settingsFor : Mode → (lentRecords lentReals : ℕ) → Settings
+settingsFor mode n m = record { mode = mode; records = min 1024 (n / width); reals = min 4096 m }
 
 -- all the room that a reading can use
-abbrev pub fullRoom : Settings
-fullRoom = settingsFor (1024 * width) 4096
+abbrev pub fullRoom : Mode → Settings
+fullRoom mode = settingsFor mode (1024 * width) 4096
 
 unfoldable pub flat : Bytes → List Record → List ℕ
 flat text [] = []

@@ -1,11 +1,13 @@
 -- The 25 types: their numbers, names, and how many strings and reals each has.
-use mathlib.Core.Bool.{Bool, true, _&&_, _||_, cond}
+use mathlib.Core.Bool.{Bool, true, false, _&&_, _||_, cond}
 use mathlib.Core.List.{List, [], _∷_}
 use Prim.Native.Nat.{ℕ, zero, suc, _%_}
 use Prim.Native.String.{String}
 use lib.Dec.{leb, eqb}
 use lib.ListN.{getD}
 use Rattle.laws.specs.Bytes.{Bytes, bytes, same}
+use Rattle.scene.specs.declared.Mode.{Mode}
+use Rattle.scene.specs.declared.Mode.the-variants.{New, Archive}
 
 -- how many strings or reals a type has, as the table of document 01 says it
 pub data Rule : Type 0 where
@@ -101,3 +103,8 @@ isMaterial t = leb 10 t && leb t 24
 -- "primitives [are divided] into surfaces and modifiers", of which "only types 10 to 25 may be looked up"
 abbrev pub isModifier : ℕ → Bool
 isModifier t = leb 10 t && leb t 25
+
+-- "new scenes with [antimatter] are refused"; "an archive reading, chosen by the caller, accepts it as before"
+abbrev pub isRetired : Mode → ℕ → Bool
+isRetired New t = eqb t (typeNumber (bytes "antimatter"))
+isRetired Archive t = false

@@ -1,12 +1,13 @@
 -- What a word that begins a statement comes to: one law for each answer of `modifier`, `kind`, `name` and `target`.
-use mathlib.Core.Bool.{Bool, true, false}
+use mathlib.Core.Bool.{Bool, true, false, cond}
 use mathlib.Core.Path.{_≡_, refl}
 use Prim.Native.Nat.{ℕ, _≤_, _<_}
 use borrow.Author.Tests.{lt-ltb, le-ltb}
 use Rattle.laws.proofs.NatLaws.{nonzero}
 use Rattle.laws.specs.Bytes.{Bytes, same, bytes}
 use Rattle.scene.specs.Statement.{void}
-use Rattle.scene.specs.Types.{typeNumber}
+use Rattle.scene.specs.Types.{isRetired, typeNumber}
+use Rattle.scene.specs.declared.Mode.{Mode}
 use Rattle.statement.specs.Heads.{goingTo, kindStep, linkTo, modifierStep, nameStep, targetAt, targetStep, typedAs, withKind, withName, withTarget}
 use Rattle.statement.specs.States.{opened}
 use Rattle.statement.specs.declared.Draft.{Draft}
@@ -36,19 +37,26 @@ module _ (w : Bytes) (room : ℕ) (s : State) (v : Seen) where
   modifier-full h = rw (le-ltb (s .count) room h)
 
 module _ (w : Bytes) (s : State) (v : Seen) where
-  -- the type: t is its number
-  module _ {q : Bool} (e : q ≡ same w (bytes "alias")) where
-    pub kind-alias : q ≡ true → goingTo s is.AliasName 0 (s .draft) ≡ kindStep w s v
+  -- the type: t is its number, o whether it is retired
+  module _ (m : Mode) {q : Bool} (e : q ≡ same w (bytes "alias")) where
+    pub kind-alias : q ≡ true → goingTo s is.AliasName 0 (s .draft) ≡ kindStep w m s v
     unfolding kindStep
     kind-alias h = rw (← e, h)
 
-    pub kind-unknown : {t : ℕ} → q ≡ false → t ≡ typeNumber w → t ≡ 0 → to.Refused 8 (v .place) ≡ kindStep w s v
+    pub kind-unknown : {t : ℕ} → q ≡ false → t ≡ typeNumber w → t ≡ 0 → to.Refused 8 (v .place) ≡ kindStep w m s v
     unfolding kindStep
     kind-unknown h g z = rw (← e, h, ← g, z)
 
-    pub kind-known : {t : ℕ} → q ≡ false → t ≡ typeNumber w → (t ≡ 0 → ⊥) → goingTo s is.Name 0 (withKind (s .draft) t) ≡ kindStep w s v
-    unfolding kindStep
-    kind-known {t} h g z = rw (← e, h, ← g) (nonzero (λ n k. goingTo s is.Name 0 (withKind (s .draft) n) ≡ typedAs s (v .place) n) (λ k. refl) t z)
+    module _ {t : ℕ} {o : Bool} (h : q ≡ false) (g : t ≡ typeNumber w) (z : t ≡ 0 → ⊥) (f : o ≡ isRetired m t) where
+      kind-known : kindStep w m s v ≡ cond o (to.Refused 28 (v .place)) (goingTo s is.Name 0 (withKind (s .draft) t))
+      unfolding kindStep
+      kind-known = rw (f, ← e, h, ← g) (nonzero (λ n k. typedAs m s (v .place) n ≡ cond (isRetired m n) (to.Refused 28 (v .place)) (goingTo s is.Name 0 (withKind (s .draft) n))) (λ k. refl) t z)
+
+      pub kind-retired : o ≡ true → to.Refused 28 (v .place) ≡ kindStep w m s v
+      kind-retired y = rw (kind-known, y)
+
+      pub kind-allowed : o ≡ false → goingTo s is.Name 0 (withKind (s .draft) t) ≡ kindStep w m s v
+      kind-allowed y = rw (kind-known, y)
 
   -- a name
   module _ (next : Phase) {q : Bool} (e : q ≡ same w void) where

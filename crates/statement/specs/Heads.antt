@@ -4,7 +4,8 @@ use Prim.Native.Nat.{ℕ, zero, suc}
 use lib.Dec.{ltb}
 use Rattle.laws.specs.Bytes.{Bytes, same, bytes}
 use Rattle.scene.specs.Statement.{void}
-use Rattle.scene.specs.Types.{typeNumber}
+use Rattle.scene.specs.Types.{isRetired, typeNumber}
+use Rattle.scene.specs.declared.Mode.{Mode}
 use Rattle.statement.specs.States.{opened}
 use Rattle.statement.specs.declared.Draft.{Draft}
 use Rattle.statement.specs.declared.Phase.{Phase}
@@ -43,14 +44,14 @@ linkTo s p (suc j) = goingTo s is.Kind 0 (opened (suc j))
 unfoldable pub modifierStep : Bytes → ℕ → State → Seen → Step
 modifierStep w room s v = cond (ltb (s .count) room) (cond (same w void) (goingTo s is.Kind 0 (opened 0)) (linkTo s (v .place) (v .found))) (to.Refused 6 (v .place))
 
--- "8 unknown type"
-abbrev pub typedAs : State → ℕ → ℕ → Step
-typedAs s p zero = to.Refused 8 p
-typedAs s p (suc t) = goingTo s is.Name 0 (withKind (s .draft) (suc t))
+-- "8 unknown type"; "28 at the type word [..], new reading only"
+abbrev pub typedAs : Mode → State → ℕ → ℕ → Step
+typedAs m s p zero = to.Refused 8 p
+typedAs m s p (suc t) = cond (isRetired m (suc t)) (to.Refused 28 p) (goingTo s is.Name 0 (withKind (s .draft) (suc t)))
 
 -- "An alias is modifier, `alias`, name, target": the word in a type's stead
-unfoldable pub kindStep : Bytes → State → Seen → Step
-kindStep w s v = cond (same w (bytes "alias")) (goingTo s is.AliasName 0 (s .draft)) (typedAs s (v .place) (typeNumber w))
+unfoldable pub kindStep : Bytes → Mode → State → Seen → Step
+kindStep w m s v = cond (same w (bytes "alias")) (goingTo s is.AliasName 0 (s .draft)) (typedAs m s (v .place) (typeNumber w))
 
 -- "9 name is `void`". A name of a primitive or of an alias: the phase after it differs
 unfoldable pub nameStep : Phase → Bytes → State → Seen → Step

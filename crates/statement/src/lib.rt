@@ -2,6 +2,7 @@
 ghost use mathlib.Core.Path.{_≡_};
 ghost use Rattle.statement.specs.Heads.{goingTo, kindStep, modifierStep, nameStep, targetStep, withName, withTarget};
 ghost use Rattle.statement.specs.States.{between, isIdle, movedTo, opened, openingOf};
+use scene::Mode;
 
 // What the next word is.
 pub enum Phase {
@@ -164,8 +165,8 @@ pub fn modifier(word: &[u8], room: usize, s: State, v: Seen) -> Step
     Step::Refused(6, v.place)
 }
 
-pub fn kind(word: &[u8], s: State, v: Seen) -> Step
-    ensures { λ r. ⌜ r ≡ kindStep (now (word .entry)) s v ⌝ }
+pub fn kind(word: &[u8], mode: Mode, s: State, v: Seen) -> Step
+    ensures { λ r. ⌜ r ≡ kindStep (now (word .entry)) mode s v ⌝ }
 {
     let mut d = s.draft;
     if lexer::same(word, b"alias") {
@@ -174,6 +175,9 @@ pub fn kind(word: &[u8], s: State, v: Seen) -> Step
     let t = kinds::type_number(word);
     if t == 0 {
         return Step::Refused(8, v.place);
+    }
+    if kinds::is_retired(mode, t) {
+        return Step::Refused(28, v.place);
     }
     d.kind = t;
     going(s, Phase::Name, 0, d)

@@ -5,6 +5,7 @@ ghost use lib.ListN.{getD, length, replicate, take};
 ghost use Rattle.scene.specs.HouseRules.{zeroReal};
 ghost use Rattle.scene.specs.Record.{fieldIn, nameIn, settingsFor, width};
 ghost use Rattle.table.specs.Question.{numberRefusal};
+use scene::Mode;
 use scene::Settings;
 
 // How many numbers a record has.
@@ -42,10 +43,11 @@ pub const MOST_REALS: usize = 4096;
 pub const MOST_NUMBERS: usize = MOST_RECORDS * WIDTH;
 
 // The settings of a reading into tables of these lengths.
-pub fn settings_for(numbers: usize, reals: usize) -> Settings
-    ensures { λ r. ⌜ r ≡ settingsFor numbers reals ⌝ }
+pub fn settings_for(mode: Mode, numbers: usize, reals: usize) -> Settings
+    ensures { λ r. ⌜ r ≡ settingsFor mode numbers reals ⌝ }
 {
     Settings {
+        mode,
         records: lexer::least(MOST_RECORDS, numbers / WIDTH),
         reals: lexer::least(MOST_REALS, reals),
     }

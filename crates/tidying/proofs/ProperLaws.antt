@@ -21,11 +21,11 @@ use Rattle.scene.specs.HouseRules.{breach}
 use Rattle.scene.specs.Phase.{Part, atType, atName, atStringCount, atString, atIntegerCount, atRealCount, atReal, atAliasName, atTarget, Phase, idle, busy, Turn, fault, onto, ends, typed, strings, stringCount, integerCount, reals, realCount, real, turn, outcome, taken, unlessFault, word}
 use Rattle.scene.specs.Reading.{Scan, gap, comment, within, Move, keep, first, command, begins, move}
 use Rattle.scene.specs.declared.Settings.{Settings}
-use Rattle.scene.specs.Statement.{Literal, literal, numbers, alias, Statement, void}
-use Rattle.scene.specs.Types.{Kind, types, numberFrom, typeNumber, isType, stringsAllowed, realsAllowed}
+use Rattle.scene.specs.Statement.{Literal, literal, numbers, Statement, void}
+use Rattle.scene.specs.Types.{Kind, types, numberFrom, typeNumber, isType, isRetired, stringsAllowed, realsAllowed}
 use Rattle.tidying.proofs.CountLaws.{count-below}
 use Rattle.tidying.proofs.WordLaws.{starts, starts-filled, statement}
-use Rattle.tidying.specs.Proper.{Good, Words, Modifier, Name, Literals, Strings, Proper, AllProper}
+use Rattle.tidying.specs.Proper.{Good, Words, Modifier, Name, Literals, Strings, TypeIn, Proper, AllProper}
 
 -- ---- lists that grow
 
@@ -56,27 +56,27 @@ cond-cases : {A : Type 0} (P : A → Type 0) (b : Bool) {x y : A} → (b ≡ tru
 cond-cases P true f g = f refl
 cond-cases P false f g = g refl
 
-module _ (m : Bytes) where
+module _ (r : Settings) (m : Bytes) where
   -- what is known of the words before a part
   abbrev Partly : Part → Type 0
   Partly atType = Modifier m
-  Partly (atName t) = Modifier m × (isType t ≡ true)
-  Partly (atStringCount t n) = Modifier m × (isType t ≡ true) × Name n
-  Partly (atString t n ss k) = Modifier m × (isType t ≡ true) × Name n × (stringsAllowed t (length ss + suc k) ≡ true) × (length ss + suc k < 10 ^ 5) × Words ss
-  Partly (atIntegerCount t n ss) = Modifier m × (isType t ≡ true) × Name n × Strings t ss
-  Partly (atRealCount t n ss) = Modifier m × (isType t ≡ true) × Name n × Strings t ss
-  Partly (atReal t n ss rs k) = Modifier m × (isType t ≡ true) × Name n × Strings t ss × (realsAllowed t (length rs + suc k) ≡ true) × (length rs + suc k < 10 ^ 5) × Literals t [] rs
+  Partly (atName t) = Modifier m × TypeIn (r .mode) t
+  Partly (atStringCount t n) = Modifier m × TypeIn (r .mode) t × Name n
+  Partly (atString t n ss k) = Modifier m × TypeIn (r .mode) t × Name n × (stringsAllowed t (length ss + suc k) ≡ true) × (length ss + suc k < 10 ^ 5) × Words ss
+  Partly (atIntegerCount t n ss) = Modifier m × TypeIn (r .mode) t × Name n × Strings t ss
+  Partly (atRealCount t n ss) = Modifier m × TypeIn (r .mode) t × Name n × Strings t ss
+  Partly (atReal t n ss rs k) = Modifier m × TypeIn (r .mode) t × Name n × Strings t ss × (realsAllowed t (length rs + suc k) ≡ true) × (length rs + suc k < 10 ^ 5) × Literals t [] rs
   Partly atAliasName = Modifier m
   Partly (atTarget n) = Modifier m × Name n
 
   abbrev OfTurn : Turn → Type 0
   OfTurn (fault n) = Unit {0}
   OfTurn (onto p) = Partly p
-  OfTurn (ends n b) = Proper (statement m n b)
+  OfTurn (ends n b) = Proper (r .mode) (statement m n b)
 
-  typed-keeps : (w : Bytes) → Modifier m → (t : ℕ) → typeNumber w ≡ t → OfTurn (typed t)
+  typed-keeps : (w : Bytes) → Modifier m → (t : ℕ) → typeNumber w ≡ t → OfTurn (typed (r .mode) t)
   typed-keeps w h zero e = tt
-  typed-keeps w h (suc k) e = (h, is-type w k e)
+  typed-keeps w h (suc k) e = cond-cases OfTurn (isRetired (r .mode) (suc k)) (λ o. tt) (λ o. (h, (is-type w k e, o)))
 
   strings-keep : (t : ℕ) (n : Bytes) (k : ℕ) → Partly (atStringCount t n) → stringsAllowed t k ≡ true → k < 10 ^ 5 → OfTurn (strings t n k)
   strings-keep t n zero h a l = (h .0, h .1, h .2, record { allowed = a; few = l; words = tt })
@@ -109,62 +109,62 @@ module _ (m : Bytes) where
   real-keeps t n ss rs k w h g (refusal c) e = tt
   real-keeps t n ss rs k w h g (value v) e = cond-cases OfTurn (breach t (numbers (rs ++ literal w v ∷ []))) (λ b. tt) (λ b. literal-keeps t n ss rs k (literal w v) h g e b)
 
-  turn-keeps : (r : Settings) (p : Part) (w : Bytes) → Good w → Partly p → OfTurn (turn r p w)
-  turn-keeps r atType w g h = cond-cases OfTurn (same w (bytes "alias")) (λ s. h) (λ s. typed-keeps w h (typeNumber w) refl)
-  turn-keeps r (atName t) w g h = cond-cases OfTurn (same w void) (λ v. tt) (λ v. (h .0, h .1, (g, v)))
-  turn-keeps r (atStringCount t n) w g h = string-count-keeps t n w h (countOf w) refl
-  turn-keeps r (atString t n ss zero) w g h =
+  turn-keeps : (p : Part) (w : Bytes) → Good w → Partly p → OfTurn (turn r p w)
+  turn-keeps atType w g h = cond-cases OfTurn (same w (bytes "alias")) (λ s. h) (λ s. typed-keeps w h (typeNumber w) refl)
+  turn-keeps (atName t) w g h = cond-cases OfTurn (same w void) (λ v. tt) (λ v. (h .0, h .1, (g, v)))
+  turn-keeps (atStringCount t n) w g h = string-count-keeps t n w h (countOf w) refl
+  turn-keeps (atString t n ss zero) w g h =
       let q : length ss + 1 ≡ length (ss ++ w ∷ []) = sym (length-append ss (w ∷ [])) in
       let l = h .4 in
       (h .0, h .1, h .2, record { allowed = subst (λ (j : ℕ). stringsAllowed t j ≡ true) q (h .3); few = omega arith; words = words-snoc ss w (h .5) g })
-  turn-keeps r (atString t n ss (suc k)) w g h =
+  turn-keeps (atString t n ss (suc k)) w g h =
       let q : length ss + suc (suc k) ≡ length (ss ++ w ∷ []) + suc k = omega (arith, length-append ss (w ∷ [])) in
       let l = h .4 in
       (h .0, h .1, h .2, subst (λ (j : ℕ). stringsAllowed t j ≡ true) q (h .3), omega arith, words-snoc ss w (h .5) g)
-  turn-keeps r (atIntegerCount t n ss) w g h = integer-count-keeps t n ss h (countOf w)
-  turn-keeps r (atRealCount t n ss) w g h = real-count-keeps t n ss w h (countOf w) refl
-  turn-keeps r (atReal t n ss rs k) w g h = real-keeps t n ss rs k w h g (numeralOf w) refl
-  turn-keeps r atAliasName w g h = cond-cases OfTurn (same w void) (λ v. tt) (λ v. (h, (g, v)))
-  turn-keeps r (atTarget n) w g h = record { modifier = h .0; name = h .1; body = g }
+  turn-keeps (atIntegerCount t n ss) w g h = integer-count-keeps t n ss h (countOf w)
+  turn-keeps (atRealCount t n ss) w g h = real-count-keeps t n ss w h (countOf w) refl
+  turn-keeps (atReal t n ss rs k) w g h = real-keeps t n ss rs k w h g (numeralOf w) refl
+  turn-keeps atAliasName w g h = cond-cases OfTurn (same w void) (λ v. tt) (λ v. (h, (g, v)))
+  turn-keeps (atTarget n) w g h = record { modifier = h .0; name = h .1; body = g }
 
 -- ---- everything read is proper
 
-abbrev PhaseProper : Phase → Type 0
-PhaseProper idle = Unit {0}
-PhaseProper (busy m p) = Partly m p
+abbrev PhaseProper : Settings → Phase → Type 0
+PhaseProper r idle = Unit {0}
+PhaseProper r (busy m p) = Partly r m p
 
 abbrev ScanProper : Phase → Scan → Type 0
 ScanProper ph gap = Unit {0}
 ScanProper ph comment = Unit {0}
 ScanProper ph (within w) = starts ph w ≡ true
 
-abbrev pub StepProper : Step → Type 0
-StepProper halt = Unit {0}
-StepProper (pass m ph l) = ScanProper ph m × PhaseProper ph × AllProper l
+abbrev pub StepProper : Settings → Step → Type 0
+StepProper r halt = Unit {0}
+StepProper r (pass m ph l) = ScanProper ph m × PhaseProper r ph × AllProper (r .mode) l
 
 module _ (r : Settings) where
-  outcome-proper : (m : Bytes) (τ : Turn) → OfTurn m τ → StepProper (after (outcome m τ))
+  outcome-proper : (m : Bytes) (τ : Turn) → OfTurn r m τ → StepProper r (after (outcome m τ))
   outcome-proper m (fault n) h = tt
   outcome-proper m (onto p) h = (tt, h, tt)
   outcome-proper m (ends n b) h = (tt, tt, (h, tt))
 
-  taken-proper : (ph : Phase) (w : Bytes) → starts ph w ≡ true → PhaseProper ph → Good w → StepProper (after (taken r ph w))
+  taken-proper : (ph : Phase) (w : Bytes) → starts ph w ≡ true → PhaseProper r ph → Good w → StepProper r (after (taken r ph w))
   taken-proper idle w s h g = (tt, (g, s), tt)
-  taken-proper (busy m p) w s h g = outcome-proper m (turn r p w) (turn-keeps m r p w g h)
+  taken-proper (busy m p) w s h g = outcome-proper m (turn r p w) (turn-keeps r m p w g h)
 
-  word-proper : (ph : Phase) (w : Bytes) → starts ph w ≡ true → PhaseProper ph → StepProper (after (word r ph w))
+  word-proper : (ph : Phase) (w : Bytes) → starts ph w ≡ true → PhaseProper r ph → StepProper r (after (word r ph w))
   unfolding wordFault
   word-proper ph w s h = go (all isGood w) (leb (length w) 64) refl refl
     where
-      go : (a b : Bool) → all isGood w ≡ a → leb (length w) 64 ≡ b → StepProper (after (unlessFault (cond a (cond b 0 3) 2) (taken r ph w)))
+      go : (a b : Bool) → all isGood w ≡ a → leb (length w) 64 ≡ b → StepProper r (after (unlessFault (cond a (cond b 0 3) 2) (taken r ph w)))
       go false b p q = tt
       go true false p q = tt
       go true true p q = taken-proper ph w s h (record { filled = starts-filled ph w s; good = p; short = leb-true (length w) 64 q })
 
-  begins-proper : (ph : Phase) (b : ℕ) → PhaseProper ph → StepProper (step r ph (begins ph b))
+  begins-proper : (ph : Phase) (b : ℕ) → PhaseProper r ph → StepProper r (step r ph (begins ph b))
   begins-proper idle b h = go (eqb b (byte "#")) (eqb b (byte "!")) refl refl
     where
-      go : (x y : Bool) → eqb b (byte "#") ≡ x → eqb b (byte "!") ≡ y → StepProper (step r idle (cond x (keep comment) (cond y command (first b))))
+      go : (x y : Bool) → eqb b (byte "#") ≡ x → eqb b (byte "!") ≡ y → StepProper r (step r idle (cond x (keep comment) (cond y command (first b))))
       go true y p q = (tt, tt, tt)
       go false true p q = tt
       go false false p q = (rw (p, q), tt, tt)
@@ -175,24 +175,24 @@ module _ (r : Settings) where
   starts-snoc idle (c ∷ w) b s = s
   starts-snoc (busy m p) (c ∷ w) b s = refl
 
-  move-proper : (m : Scan) (ph : Phase) (b : ℕ) → ScanProper ph m → PhaseProper ph → StepProper (step r ph (move m ph b))
-  move-proper gap ph b s h = cond-elim (λ (v : Move). StepProper (step r ph v)) (isBlank b) (tt, h, tt) (begins-proper ph b h)
-  move-proper comment ph b s h = cond-elim (λ (v : Move). StepProper (step r ph v)) (eqb b 10) (tt, h, tt) (tt, h, tt)
-  move-proper (within w) ph b s h = cond-elim (λ (v : Move). StepProper (step r ph v)) (isBlank b) (word-proper ph w s h) (starts-snoc ph w b s, h, tt)
+  move-proper : (m : Scan) (ph : Phase) (b : ℕ) → ScanProper ph m → PhaseProper r ph → StepProper r (step r ph (move m ph b))
+  move-proper gap ph b s h = cond-elim (λ (v : Move). StepProper r (step r ph v)) (isBlank b) (tt, h, tt) (begins-proper ph b h)
+  move-proper comment ph b s h = cond-elim (λ (v : Move). StepProper r (step r ph v)) (eqb b 10) (tt, h, tt) (tt, h, tt)
+  move-proper (within w) ph b s h = cond-elim (λ (v : Move). StepProper r (step r ph v)) (isBlank b) (word-proper ph w s h) (starts-snoc ph w b s, h, tt)
 
-  proper-append : (x y : List Statement) → AllProper x → AllProper y → AllProper (x ++ y)
+  proper-append : (x y : List Statement) → AllProper (r .mode) x → AllProper (r .mode) y → AllProper (r .mode) (x ++ y)
   proper-append [] y h k = k
   proper-append (s ∷ x) y h k = (h .0, proper-append x y (h .1) k)
 
-  onTop-proper : (l : List Statement) (s : Step) → AllProper l → StepProper s → StepProper (onTop l s)
+  onTop-proper : (l : List Statement) (s : Step) → AllProper (r .mode) l → StepProper r s → StepProper r (onTop l s)
   onTop-proper l halt h k = tt
   onTop-proper l (pass m ph x) h k = (k .0, k .1, proper-append x l (k .2) h)
 
-  chain-proper : (s : Step) (k : Scan → Phase → Step) → StepProper s → ((m : Scan) (ph : Phase) → ScanProper ph m → PhaseProper ph → StepProper (k m ph)) → StepProper (chain s k)
+  chain-proper : (s : Step) (k : Scan → Phase → Step) → StepProper r s → ((m : Scan) (ph : Phase) → ScanProper ph m → PhaseProper r ph → StepProper r (k m ph)) → StepProper r (chain s k)
   chain-proper halt k h f = tt
   chain-proper (pass m ph l) k h f = onTop-proper l (k m ph) (h .2) (f m ph (h .0) (h .1))
 
-  pub parse-proper : (t : Bytes) (m : Scan) (ph : Phase) → ScanProper ph m → PhaseProper ph → StepProper (parse r m ph t)
+  pub parse-proper : (t : Bytes) (m : Scan) (ph : Phase) → ScanProper ph m → PhaseProper r ph → StepProper r (parse r m ph t)
   unfolding parse
   parse-proper [] m ph s h = (s, h, tt)
   parse-proper (b ∷ t) m ph s h = chain-proper (step r ph (move m ph b)) (λ m ph. parse r m ph t) (move-proper m ph b s h) (λ m ph s h. parse-proper t m ph s h)

@@ -23,19 +23,19 @@ use Rattle.tidying.specs.Tidy.{statementText, tidy}
 
 -- ---- the statements
 
-tidy-parse : (r : Settings) (d : List Statement) → AllProper d → parse r gap idle (tidy d) ≡ pass gap idle d
+tidy-parse : (r : Settings) (d : List Statement) → AllProper (r .mode) d → parse r gap idle (tidy d) ≡ pass gap idle d
 unfolding tidy parse
 tidy-parse r [] h = refl
 tidy-parse r (s ∷ d) h = join r (tidy d) (statementText s) d (s ∷ []) (tidy-parse r d (h .1)) (statement-read r s (h .0))
 
 -- the tidy text of proper and sound statements reads as they are
-pub tidy-reads : (r : Settings) (d : List Statement) → AllProper d → Sound r d → length (tidy d) ≤ 65536 → (es : List Entry) × (read r (tidy d) ≡ accepted es) × (statements es ≡ d)
+pub tidy-reads : (r : Settings) (d : List Statement) → AllProper (r .mode) d → Sound r d → length (tidy d) ≤ 65536 → (es : List Entry) × (read r (tidy d) ≡ accepted es) × (statements es ≡ d)
 unfolding parse isBlank
 tidy-reads r d h s fits = accept-back r (tidy d) d (le-leb (length (tidy d)) 65536 fits) (join r (tidy d) newline d [] (tidy-parse r d h) refl) s
 
 -- what was accepted is proper
-pub accepted-proper : (r : Settings) (text : Bytes) (es : List Entry) → read r text ≡ accepted es → AllProper (statements es)
-accepted-proper r text es e = subst (StepProper) (accept-forth r text es e .1) (parse-proper r (text ++ newline) gap idle tt tt) .2
+pub accepted-proper : (r : Settings) (text : Bytes) (es : List Entry) → read r text ≡ accepted es → AllProper (r .mode) (statements es)
+accepted-proper r text es e = subst (StepProper r) (accept-forth r text es e .1) (parse-proper r (text ++ newline) gap idle tt tt) .2
 
 -- ---- the table
 

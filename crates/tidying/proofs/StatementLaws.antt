@@ -18,13 +18,14 @@ use Rattle.lexer.specs.Class.{isGood}
 use Rattle.scene.proofs.SyntaxLaws.{Step, pass, parse}
 use Rattle.scene.specs.Phase.{onto, typed, atType, atName, atStringCount, atString, atIntegerCount, atRealCount, atReal, atAliasName, atTarget, idle, busy}
 use Rattle.scene.specs.Reading.{gap, newline}
+use Rattle.scene.specs.declared.Mode.{Mode}
 use Rattle.scene.specs.declared.Settings.{Settings}
 use Rattle.scene.proofs.SpellingLaws.{numerals-length}
 use Rattle.scene.specs.Statement.{Literal, numeralWords, Body, primitive, alias, Statement}
 use Rattle.scene.specs.Types.{Kind, noType, types, numberFrom, typeNumber, kindOf, typeName, isType}
 use Rattle.tidying.proofs.CountLaws.{count-good, count-reads}
 use Rattle.tidying.proofs.WordLaws.{line-append, from-first, to-word, to-line, to-end, statement}
-use Rattle.tidying.specs.Proper.{Good, Words, Modifier, Name, Literals, Strings, Reals, ProperBody, Proper}
+use Rattle.tidying.specs.Proper.{Good, Words, Modifier, Name, Literals, Strings, Reals, TypeIn, ProperBody, Proper}
 use Rattle.tidying.specs.Tidy.{spaced, line, counted, bodyText, statementText}
 
 -- ---- types
@@ -33,7 +34,7 @@ use Rattle.tidying.specs.Tidy.{spaced, line, counted, bodyText, statemen
 record TypeWord (t : ℕ) (w : Bytes) : Type 0 where
   good : Good w
   other : same w (bytes "alias") ≡ false
-  number : typed (typeNumber w) ≡ onto (atName t)
+  number : typeNumber w ≡ t
 
 -- the tests that say so of the name in a row
 abbrev named : ℕ → Kind → Bool
@@ -54,7 +55,7 @@ named-word k t h =
     record {
       good = record { filled = leb-true 1 (length w) (and-left _ _ h); good = and-left _ _ good; short = leb-true (length w) 64 (and-left _ _ short) };
       other = not-true (same w (bytes "alias")) (and-left other number last);
-      number = ap typed (eqb-true (typeNumber w) (suc k) (and-right other number last));
+      number = eqb-true (typeNumber w) (suc k) (and-right other number last);
     }
 
 type-word : (t : ℕ) → isType t ≡ true → TypeWord t (typeName t)
@@ -63,6 +64,11 @@ type-word zero h = absurd (false≢true h)
 type-word (suc t) h =
     let most = leb-true (suc t) 25 (and-right (leb 1 (suc t)) (leb (suc t) 25) h) in
     named-word t (getD types t noType) (is-true _ (entry named noType types all-named t (omega arith)))
+
+-- a type that the mode accepts
+typed-onto : (mode : Mode) (t : ℕ) → TypeIn mode t → typed mode t ≡ onto (atName t)
+typed-onto mode zero h = absurd (false≢true (h .0))
+typed-onto mode (suc t) h = rw (h .1)
 
 module _ (r : Settings) (m : Bytes) where
   -- ---- strings
@@ -124,10 +130,10 @@ module _ (r : Settings) (m : Bytes) where
   unfolding all isGood
   alias-good = record { filled = omega arith; good = refl; short = omega arith }
 
-  body-read : (n : Bytes) (b : Body) → Modifier m → Name n → ProperBody b → parse r gap idle (bodyText m n b) ≡ pass gap idle (statement m n b ∷ [])
+  body-read : (n : Bytes) (b : Body) → Modifier m → Name n → ProperBody (r .mode) b → parse r gap idle (bodyText m n b) ≡ pass gap idle (statement m n b ∷ [])
   unfolding same
   body-read n (primitive t ss rs) o a h =
-      let word = type-word t (h .0) in
+      let word = type-word t (h .0 .0) in
       let strings = counted ss in
       let reals = counted (numeralWords rs) in
       let rest = strings ++ (counted [] ++ reals) in
@@ -137,7 +143,7 @@ module _ (r : Settings) (m : Bytes) where
       ∙ line-append m (typeName t ∷ n ∷ []) rest in
       ap (parse r gap idle) text
       ∙ from-first r m (o .1) (o .0) (typeName t) (n ∷ []) (10 ∷ rest)
-      ∙ to-word r m atType (atName t) (typeName t) (word .good) (rw (word .other, word .number)) n [] (10 ∷ rest)
+      ∙ to-word r m atType (atName t) (typeName t) (word .good) (rw (word .other, word .number) (typed-onto (r .mode) t (h .0))) n [] (10 ∷ rest)
       ∙ to-line r m (atName t) (atStringCount t n) n (a .0) (rw (a .1)) rest
       ∙ strings-line t n ss (counted [] ++ reals) (h .1)
       ∙ integers-line t n ss reals
@@ -149,5 +155,5 @@ module _ (r : Settings) (m : Bytes) where
       ∙ to-word r m atAliasName (atTarget n) n (a .0) (rw (a .1)) x [] newline
       ∙ to-end r m (atTarget n) x n (alias x) h refl
 
-pub statement-read : (r : Settings) (s : Statement) → Proper s → parse r gap idle (statementText s) ≡ pass gap idle (s ∷ [])
+pub statement-read : (r : Settings) (s : Statement) → Proper (r .mode) s → parse r gap idle (statementText s) ≡ pass gap idle (s ∷ [])
 statement-read r s h = body-read r (s .modifier) (s .name) (s .body) (h .modifier) (h .name) (h .body)

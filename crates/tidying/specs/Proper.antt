@@ -1,4 +1,4 @@
--- The statements that can be written back, word by word. Every accepted text has only such.
+-- The statements that can be written back, word by word, and read in a mode. Every text accepted in that mode has only such.
 use mathlib.Core.Bool.{Bool, true, false, not, _&&_}
 use mathlib.Core.List.{List, [], _∷_, _++_}
 use mathlib.Core.Path.{_≡_}
@@ -11,7 +11,8 @@ use Rattle.lexer.specs.Class.{isGood}
 use Rattle.numeral.specs.Numeral.{value, numeralOf}
 use Rattle.scene.specs.HouseRules.{breach}
 use Rattle.scene.specs.Statement.{Literal, numbers, Body, primitive, alias, Statement, void}
-use Rattle.scene.specs.Types.{isType, stringsAllowed, realsAllowed}
+use Rattle.scene.specs.Types.{isType, isRetired, stringsAllowed, realsAllowed}
+use Rattle.scene.specs.declared.Mode.{Mode}
 
 -- ---- words
 
@@ -56,15 +57,19 @@ pub record Reals (t : ℕ) (rs : List Literal) : Type 0 where
 
 -- ---- statements
 
-abbrev pub ProperBody : Body → Type 0
-ProperBody (primitive t ss rs) = (isType t ≡ true) × Strings t ss × Reals t rs
-ProperBody (alias x) = Good x
+-- a type that the mode accepts
+abbrev pub TypeIn : Mode → ℕ → Type 0
+TypeIn mode t = (isType t ≡ true) × (isRetired mode t ≡ false)
 
-pub record Proper (s : Statement) : Type 0 where
+abbrev pub ProperBody : Mode → Body → Type 0
+ProperBody mode (primitive t ss rs) = TypeIn mode t × Strings t ss × Reals t rs
+ProperBody mode (alias x) = Good x
+
+pub record Proper (mode : Mode) (s : Statement) : Type 0 where
   pub modifier : Modifier (s .modifier)
   pub name : Name (s .name)
-  pub body : ProperBody (s .body)
+  pub body : ProperBody mode (s .body)
 
-abbrev pub AllProper : List Statement → Type 0
-AllProper [] = Unit {0}
-AllProper (s ∷ d) = Proper s × AllProper d
+abbrev pub AllProper : Mode → List Statement → Type 0
+AllProper mode [] = Unit {0}
+AllProper mode (s ∷ d) = Proper mode s × AllProper mode d

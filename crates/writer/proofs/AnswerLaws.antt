@@ -27,6 +27,7 @@ use Rattle.record_text.specs.RecordText.{recordTexts}
 use Rattle.scene.specs.Reading as reading
 use Rattle.scene.specs.Reading.{Reading, accepted, read, statements}
 use Rattle.scene.specs.Record.{filled, recordImage, realImage, settingsFor}
+use Rattle.scene.specs.declared.Mode.{Mode}
 use Rattle.scene.specs.declared.Settings.{Settings}
 use Rattle.tidying.specs.Tidy.{tidy}
 use Rattle.writer.specs.Answer as answer
@@ -103,22 +104,22 @@ cleared-from out at start s rest z =
 
 -- ---- the call
 
-module _ (text : Bytes) (table : List ℕ) (doubles : List Float) (out : Bytes) where
-  pub writes-refused : (n p : ℕ) → fresh.Refused n p ≡ freshOf text table doubles (readInto text table doubles) → {out′ : Bytes} → out′ ≡ filled 0 (length out) [] → Writes text table doubles out (call.Refused n p) out′
+module _ (mode : Mode) (text : Bytes) (table : List ℕ) (doubles : List Float) (out : Bytes) where
+  pub writes-refused : (n p : ℕ) → fresh.Refused n p ≡ freshOf text table doubles (readInto mode text table doubles) → {out′ : Bytes} → out′ ≡ filled 0 (length out) [] → Writes mode text table doubles out (call.Refused n p) out′
   writes-refused n p e z =
-      let o = refused-as text table doubles (length out) (readInto text table doubles) n p e in
+      let o = refused-as text table doubles (length out) (readInto mode text table doubles) n p e in
       record { says = ap answered (sym o); output = z ∙ ap (answer.output (length out)) (sym o) }
 
-  module _ (n : ℕ) (e : fresh.Same n ≡ freshOf text table doubles (readInto text table doubles)) {r : Cursor} {mid : Bytes} (p : Puts out front (recordTexts text table n) r mid) where
-    fitted-as : tidied text table doubles (length out) ≡ fitted (length out) (recordTexts text table n)
-    fitted-as = same-as text table doubles (length out) (settingsFor (length table) (length doubles)) (readInto text table doubles) n refl e
+  module _ (n : ℕ) (e : fresh.Same n ≡ freshOf text table doubles (readInto mode text table doubles)) {r : Cursor} {mid : Bytes} (p : Puts out front (recordTexts text table n) r mid) where
+    fitted-as : tidied mode text table doubles (length out) ≡ fitted (length out) (recordTexts text table n)
+    fitted-as = same-as text table doubles (length out) (settingsFor mode (length table) (length doubles)) (readInto mode text table doubles) n refl e
 
-    pub writes-too-long : r .full ≡ true → {out′ : Bytes} → out′ ≡ filled 0 (length mid) [] → Writes text table doubles out (call.Refused 23 0) out′
+    pub writes-too-long : r .full ≡ true → {out′ : Bytes} → out′ ≡ filled 0 (length mid) [] → Writes mode text table doubles out (call.Refused 23 0) out′
     writes-too-long f z =
         let o = fitted-as ∙ too-long p f in
         record { says = ap answered (sym o); output = z ∙ ap (λ (k : ℕ). filled 0 k []) (puts-length p) ∙ ap (answer.output (length out)) (sym o) }
 
-    pub writes-all : (f : r .full ≡ false) → {out′ : Bytes} → out′ ≡ take (r .at) mid ++ replicate (length mid - r .at) 0 → Writes text table doubles out (call.Written (r .at)) out′
+    pub writes-all : (f : r .full ≡ false) → {out′ : Bytes} → out′ ≡ take (r .at) mid ++ replicate (length mid - r .at) 0 → Writes mode text table doubles out (call.Written (r .at)) out′
     writes-all f z =
         let o = fitted-as ∙ fitting p f in
         record { says = ap call.Written (end-is p f) ∙ ap answered (sym o); output = z ∙ rest-cleared p f ∙ ap (answer.output (length out)) (sym o) }

@@ -12,6 +12,7 @@ use Rattle.reader.specs.Answer.{readInto}
 use Rattle.scene.specs.Reading as reading
 use Rattle.scene.specs.Reading.{Reading, accepted, statements}
 use Rattle.scene.specs.Record.{filled}
+use Rattle.scene.specs.declared.Mode.{Mode}
 use Rattle.tidying.specs.Tidy.{tidy}
 use Rattle.writer.specs.declared.Answer.{Answer}
 use Rattle.writer.specs.declared.Answer.the-variants.{Written, Refused}
@@ -31,9 +32,9 @@ outcomeOf text records reals room (reading.refused n p) = refused n p
 outcomeOf text records reals room (accepted es) =
     cond (tablesMatch text records reals (accepted es)) (fitted room (tidy (statements es))) (refused 22 0)
 
--- what a call comes to, of a text, two lent tables and an output of so many bytes
-abbrev pub tidied : Bytes → (records : List ℕ) → (reals : List Float) → (room : ℕ) → Outcome
-tidied text records reals room = outcomeOf text records reals room (readInto text records reals)
+-- what a call comes to, in a mode, of a text, two lent tables and an output of so many bytes
+abbrev pub tidied : Mode → Bytes → (records : List ℕ) → (reals : List Float) → (room : ℕ) → Outcome
+tidied mode text records reals room = outcomeOf text records reals room (readInto mode text records reals)
 
 -- the answer: the text's length, or reason and place
 abbrev pub answered : Outcome → Answer
@@ -58,6 +59,6 @@ abbrev pub output : ℕ → Outcome → Bytes
 output n o = filled 0 n (bytesOf o)
 
 -- one call: the answer, and the output at exit
-pub record Writes (text : Bytes) (records : List ℕ) (reals : List Float) (out : Bytes) (r : Answer) (out′ : Bytes) : Type 0 where
-  pub says : r ≡ answered (tidied text records reals (length out))
-  pub output : out′ ≡ output (length out) (tidied text records reals (length out))
+pub record Writes (mode : Mode) (text : Bytes) (records : List ℕ) (reals : List Float) (out : Bytes) (r : Answer) (out′ : Bytes) : Type 0 where
+  pub says : r ≡ answered (tidied mode text records reals (length out))
+  pub output : out′ ≡ output (length out) (tidied mode text records reals (length out))

@@ -1,5 +1,6 @@
 // A scene written out, tidy.
 use fresh::Fresh;
+use scene::Mode;
 ghost use mathlib.Core.List.{_++_};
 ghost use mathlib.Core.Path.{_≡_};
 ghost use Prim.Native.Nat.{_-_};
@@ -30,12 +31,12 @@ fn clear_from(out: &mut [u8], at: usize)
     clear(&mut out[start..]);
 }
 
-// Writes the tidy text of a text into a lent output. The tables are to be those that reading the text leaves; they are
-// compared with a fresh reading, and never written.
-pub fn write(text: &[u8], records: &[u32], reals: &[f64], out: &mut [u8]) -> Answer
-    ensures { λ r. ⌜ Writes (now (text .entry)) (now (records .entry)) (now (reals .entry)) (now (out .entry)) r (now (out .exit)) ⌝ }
+// Writes the tidy text of a text into a lent output. The tables are to be those that reading the text in the same
+// mode leaves; they are compared with a fresh reading, and never written.
+pub fn write(mode: Mode, text: &[u8], records: &[u32], reals: &[f64], out: &mut [u8]) -> Answer
+    ensures { λ r. ⌜ Writes mode (now (text .entry)) (now (records .entry)) (now (reals .entry)) (now (out .entry)) r (now (out .exit)) ⌝ }
 {
-    match fresh::compare(text, records, reals) {
+    match fresh::compare(mode, text, records, reals) {
         Fresh::Refused(reason, place) => {
             clear_from(out, 0);
             Answer::Refused(reason, place)

@@ -3,11 +3,25 @@
 use super::numerals;
 use crate::reference::random::Random;
 
-/// A text and how many entries are lent.
+/// A mode by its number, a text, and how many entries are lent.
 pub struct Case {
+    pub mode: u32,
     pub text: Vec<u8>,
     pub records: usize,
     pub reals: usize,
+}
+
+impl Case {
+    pub fn is_archive(&self) -> bool {
+        self.mode == ARCHIVE
+    }
+}
+
+const ARCHIVE: u32 = 1;
+
+/// Any number but that of the archive reading is the new one's.
+fn mode(random: &mut Random) -> u32 {
+    *random.pick(&[0, 0, 0, ARCHIVE, ARCHIVE, ARCHIVE, 2, u32::MAX])
 }
 
 type Words = Vec<Vec<u8>>;
@@ -114,8 +128,17 @@ struct Given {
     definitions: Words,
 }
 
+/// A type by its place in the list. Antimatter, which ends a new reading, is rare there.
+fn kind(random: &mut Random, mode: u32) -> usize {
+    let number = random.below(TYPES.len());
+    if TYPES[number].0 == "antimatter" && mode != ARCHIVE && random.percent(90) {
+        return FIRST_MATERIAL;
+    }
+    number
+}
+
 /// A statement that is likely to be accepted.
-fn statement(random: &mut Random, given: &mut Given) -> Words {
+fn statement(random: &mut Random, mode: u32, given: &mut Given) -> Words {
     let modifier = given.modifier(random);
     let name = name(random);
     if !given.definitions.is_empty() && random.percent(20) {
@@ -123,7 +146,7 @@ fn statement(random: &mut Random, given: &mut Given) -> Words {
         given.give(&name, false);
         return vec![modifier, b"alias".to_vec(), name, target];
     }
-    let number = random.below(TYPES.len());
+    let number = kind(random, mode);
     let (kind, strings, reals) = TYPES[number];
     given.give(&name, number < FIRST_MATERIAL);
     let mut words = vec![modifier, kind.as_bytes().to_vec(), name];
@@ -277,24 +300,25 @@ const MOST_RECORD_NUMBERS: usize = 10 * 1024;
 const MOST_REALS: usize = 4096;
 
 /// Up to some hundred statements, and what they give.
-fn statements(random: &mut Random) -> (Vec<Words>, Given) {
+fn statements(random: &mut Random, mode: u32) -> (Vec<Words>, Given) {
     let size = match random.below(100) {
         0..=79 => random.below(13),
         80..=96 => random.within(13, 50),
         _ => random.within(51, 250),
     };
     let mut given = Given::default();
-    let statements = (0..size).map(|_| statement(random, &mut given)).collect();
+    let statements = (0..size).map(|_| statement(random, mode, &mut given)).collect();
     (statements, given)
 }
 
 /// A text of statements, and tables for it.
-fn laid_out(random: &mut Random, statements: &[Words], damages: usize) -> Case {
+fn laid_out(random: &mut Random, mode: u32, statements: &[Words], damages: usize) -> Case {
     let mut text = joined(random, statements);
     (0..damages).for_each(|_| damage(random, &mut text));
     let size = statements.len();
     let words: usize = statements.iter().map(Vec::len).sum();
     Case {
+        mode,
         text,
         records: lent(random, MOST_RECORD_NUMBERS, 10 * size),
         reals: lent(random, MOST_REALS, words.saturating_sub(6 * size)),
@@ -302,19 +326,19 @@ fn laid_out(random: &mut Random, statements: &[Words], damages: usize) -> Case {
 }
 
 /// A scene of up to some hundred statements.
-fn ordinary(random: &mut Random) -> Case {
-    let (mut statements, _) = statements(random);
+fn ordinary(random: &mut Random, mode: u32) -> Case {
+    let (mut statements, _) = statements(random, mode);
     if random.percent(40) {
         for _ in 0..random.within(1, 2) {
             spoil(random, &mut statements);
         }
     }
     let damages = usize::from(random.percent(20));
-    laid_out(random, &statements, damages)
+    laid_out(random, mode, &statements, damages)
 }
 
 /// Bytes with no plan behind them, or few of a scene's words.
-fn noise(random: &mut Random) -> Case {
+fn noise(random: &mut Random, mode: u32) -> Case {
     let mut text = Vec::new();
     let plain = random.percent(30);
     for _ in 0..random.below(60) {
@@ -325,18 +349,18 @@ fn noise(random: &mut Random) -> Case {
             text.extend_from_slice(random.pick(&BLANKS).as_bytes());
         }
     }
-    Case { text, records: lent(random, MOST_RECORD_NUMBERS, 20), reals: lent(random, MOST_REALS, 4) }
+    Case { mode, text, records: lent(random, MOST_RECORD_NUMBERS, 20), reals: lent(random, MOST_REALS, 4) }
 }
 
 /// A scene at or around one of the limits.
-fn at_a_limit(random: &mut Random) -> Case {
+fn at_a_limit(random: &mut Random, mode: u32) -> Case {
     let primitives = *random.pick(&[2, 10, 1023, 1024, 1025, 1030]);
     let reals = *random.pick(&[0, 1, 4095, 4096, 4097, 5000]);
     let name = vec![b'n'; *random.pick(&[1, 63, 64, 65])];
     let mut text = [b"void mixfunc ", name.as_slice(), format!(" 4 a b c d 0 {reals}").as_bytes()].concat();
     (0..reals).for_each(|_| text.extend_from_slice(b" 1"));
     text.extend_from_slice(&[b"\nvoid alias a ", name.as_slice(), b"\n"].concat());
-    let line = *random.pick(&[&b"a alias a a\n"[..], b"a alias b a\n", b"void antimatter b 1 x 0 0\na alias c b\n"]);
+    let line = *random.pick(&[&b"a alias a a\n"[..], b"a alias b a\n", b"void mixfunc b 4 a b c d 0 0\na alias c b\n"]);
     let lines = line.iter().filter(|&&b| b == b'\n').count();
     (0..(primitives - 2) / lines).for_each(|_| text.extend_from_slice(line));
     if random.percent(60) {
@@ -347,7 +371,7 @@ fn at_a_limit(random: &mut Random) -> Case {
     }
     let records = *random.pick(&[10_240, 10_240, 10_240, 10_239, 10_241, 10_249, 10_250, 10_260, 12_000, 10_230]);
     let reals = *random.pick(&[4096, 4096, 4096, 4095, 4097, 6000]);
-    Case { text, records, reals }
+    Case { mode, text, records, reals }
 }
 
 /// Fills a text up to about the most bytes, before or behind its statements.
@@ -366,21 +390,27 @@ fn pad(random: &mut Random, text: &mut Vec<u8>) {
     }
 }
 
-/// Any of the above.
-pub fn case(random: &mut Random) -> Case {
+/// Any of the above, in a mode.
+fn case_in(random: &mut Random, mode: u32) -> Case {
     match random.below(200) {
-        0 => at_a_limit(random),
-        1..=8 => noise(random),
-        _ => ordinary(random),
+        0 => at_a_limit(random, mode),
+        1..=8 => noise(random, mode),
+        _ => ordinary(random, mode),
     }
 }
 
+/// And in any mode.
+pub fn case(random: &mut Random) -> Case {
+    let mode = mode(random);
+    case_in(random, mode)
+}
+
 /// Statements changed as between two saves: mostly so that they are accepted still.
-fn change(random: &mut Random, statements: &mut Vec<Words>, given: &mut Given) {
+fn change(random: &mut Random, mode: u32, statements: &mut Vec<Words>, given: &mut Given) {
     let size = statements.len();
     let at = random.below(size.max(1));
     match random.below(10) {
-        _ if size < 2 => statements.push(statement(random, given)),
+        _ if size < 2 => statements.push(statement(random, mode, given)),
         0..=2 => {
             let last = statements[at].last_mut().expect("a statement has words");
             if last != b"0" {
@@ -393,19 +423,20 @@ fn change(random: &mut Random, statements: &mut Vec<Words>, given: &mut Given) {
         6 => statements.swap(at, (at + 1) % size),
         7 => statements[at][0] = b"void".to_vec(),
         8 => spoil(random, statements),
-        _ => statements.push(statement(random, given)),
+        _ => statements.push(statement(random, mode, given)),
     }
 }
 
-/// Two saves of a scene; now and then two scenes.
+/// Two saves of a scene, in one mode; now and then two scenes.
 pub fn saves(random: &mut Random) -> [Case; 2] {
+    let mode = mode(random);
     if random.percent(10) {
-        return [case(random), case(random)];
+        return [case_in(random, mode), case_in(random, mode)];
     }
-    let (left, mut given) = statements(random);
+    let (left, mut given) = statements(random, mode);
     let mut right = left.clone();
     for _ in 0..random.below(6) {
-        change(random, &mut right, &mut given);
+        change(random, mode, &mut right, &mut given);
     }
     let mut saves = [left, right];
     if random.percent(50) {
@@ -413,7 +444,7 @@ pub fn saves(random: &mut Random) -> [Case; 2] {
     }
     saves.map(|statements| {
         let damages = usize::from(random.percent(5));
-        laid_out(random, &statements, damages)
+        laid_out(random, mode, &statements, damages)
     })
 }
 

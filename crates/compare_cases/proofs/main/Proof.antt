@@ -1,26 +1,29 @@
 -- `compare_cases::main` is safe, and ends.
-use Prim.Native.Nat.{_-_, _≤_}
+use Prim.Native.Nat.{_-_}
 use borrow.Author.Needs.{needs}
 use Rattle.compare_cases.proofs.main.Statement.{statement}
 use Rattle.compare_cases.proofs.main.Tie as tie
 
 abbrev Inv-loop : tie.InvT-loop
-Inv-loop pairs pair₀ pair = pair ≤ pairs
+Inv-loop mode last left₀ left = Unit {0}
 
 abbrev μ-loop : tie.MeasureT-loop
-μ-loop pairs pair₀ pair = pairs - pair
+μ-loop mode last left₀ left = last - left
 
-count-requires : tie.Need-count-requires Inv-loop μ-loop
-count-requires c κs = search needs
+mode-requires : tie.Need-mode-requires Inv-loop μ-loop
+mode-requires c κs = search needs
+
+end-requires : tie.Need-end-requires Inv-loop μ-loop
+end-requires c κs = search needs
+
+sub-last : tie.Need-sub-last Inv-loop μ-loop
+sub-last c = search needs
+
+first-requires : tie.Need-first-requires Inv-loop μ-loop
+first-requires c κs = search needs
 
 loop-holds : tie.Need-loop-holds Inv-loop μ-loop
 loop-holds c = search needs
-
-mul-left : tie.Need-mul-left Inv-loop μ-loop
-mul-left c = search needs
-
-add-left : tie.Need-add-left Inv-loop μ-loop
-add-left c = search needs
 
 add-print-names : tie.Need-add-print-names Inv-loop μ-loop
 add-print-names c = search needs
@@ -40,8 +43,8 @@ compare-arguments-requires c κs = search needs
 returns-2 : tie.Need-returns-2 Inv-loop μ-loop
 returns-2 c = search needs
 
-add-pair : tie.Need-add-pair Inv-loop μ-loop
-add-pair c = search needs
+add-left : tie.Need-add-left Inv-loop μ-loop
+add-left c = search needs
 
 loop-less : tie.Need-loop-less Inv-loop μ-loop
 loop-less c = search needs
@@ -58,17 +61,18 @@ main-spec =
     (tie.spec
     Inv-loop
     μ-loop
-    count-requires
+    mode-requires
+    end-requires
+    sub-last
+    first-requires
     loop-holds
-    mul-left
-    add-left
     add-print-names
     print-names-requires
     returns
     add-compare-arguments
     compare-arguments-requires
     returns-2
-    add-pair
+    add-left
     loop-less
     loop-again
     returns-3)

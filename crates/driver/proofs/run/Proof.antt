@@ -12,6 +12,7 @@ use Rattle.driver.proofs.NextLaws.{ready}
 use Rattle.driver.specs.Invariant.{Inv, Ready}
 use Rattle.laws.specs.Bytes.{Bytes}
 use Rattle.scene.specs.HouseRules.{zeroReal}
+use Rattle.scene.specs.declared.Mode.{Mode}
 use Rattle.scene.specs.declared.Settings.{Settings}
 use Rattle.statement.specs.declared.State.{State}
 use Rattle.statement.specs.declared.Step.{Step}
@@ -38,7 +39,7 @@ unfolding lib.Ieee.ofBits
 returns c =
     let at-clear = c .before .before .before .before .before in
     let a = at-clear .before .before .before .before .before .before .args in
-    too-long (a .text .now) (a .records .now) (a .reals .now) _ _ (at-clear .clear .ensures .0) (at-clear .clear .ensures .1) (c .if1 .taken)
+    too-long (a .mode) (a .text .now) (a .records .now) (a .reals .now) _ _ (at-clear .clear .ensures .0) (at-clear .clear .ensures .1) (c .if1 .taken)
 
 settings-for-requires : tie.Need-settings-for-requires Inv-loop μ-loop
 settings-for-requires c κs = search needs
@@ -52,10 +53,13 @@ loop-holds c =
     let at-if1 = c .before .before in
     let at-clear = at-if1 .before .before .before .before .before in
     let a = at-clear .before .before .before .before .before .before .args in
-    (subst (Inv _ _ _ _) (sym (c .between .ensures)) (first-inv _ (a .records .now) (a .reals .now) _ _ (at-clear .clear .ensures .0) (at-clear .clear .ensures .1) (at-if1 .if1 .left) _ (c .before .settings-for .ensures)), refl, refl)
+    (subst (Inv _ _ _ _) (sym (c .between .ensures)) (first-inv _ _ (a .records .now) (a .reals .now) _ _ (at-clear .clear .ensures .0) (at-clear .clear .ensures .1) (at-if1 .if1 .left) _ (c .before .settings-for .ensures)), refl, refl)
 
 -- a turn of the loop, once its step is taken: the text, the tables, the settings and the state, and what holds of them
 module _ (p : tie.After-next-step Inv-loop μ-loop) where
+  abbrev mode : Mode
+  mode = p .before .before .before .before .before .before .before .before .before .before .before .before .before .before .before .before .before .args .mode
+
   abbrev text : Bytes
   text = p .before .before .before .before .before .before .before .before .before .before .before .before .before .before .before .before .before .args .text .now
 
@@ -79,6 +83,9 @@ module _ (p : tie.After-next-step Inv-loop μ-loop) where
 
   inv : Inv text records reals settings state
   inv = p .before .before .before .loop .inv .0
+
+  in-mode : settings .mode ≡ mode
+  in-mode = ap (λ (z : Settings). z .mode) (p .before .before .before .before .before .settings-for .ensures)
 
   kept-records : length records ≡ length lent-records
   kept-records = p .before .before .before .loop .inv .1 ∙ p .before .before .before .before .before .before .before .before .before .before .before .clear .kept .0
@@ -109,7 +116,7 @@ enum-known-t-2 c = search needs
 mul-reals : tie.Need-mul-reals Inv-loop μ-loop
 mul-reals c =
     let at-step = c .before .before .before in
-    omega (arith, steps-to at-step _ (c .before .t2 .given .1) .0, kept-reals at-step, at-step .before .before .before .before .before .before .before .before .before .before .before .before .before .before .before .before .before .good .1 .1 .0 .1)
+    omega (arith, steps-to at-step _ (c .before .t2 .given .1) .0, kept-reals at-step, at-step .before .before .before .before .before .before .before .before .before .before .before .before .before .before .before .before .before .good .1 .1 .1 .0 .1)
 
 slice-write-reals : tie.Need-slice-write-reals Inv-loop μ-loop
 slice-write-reals c = steps-to (c .before .before .before) _ (c .before .t2 .given .1) .0
@@ -128,7 +135,7 @@ enum-known-t-3 c = search needs
 mul-reals-2 : tie.Need-mul-reals-2 Inv-loop μ-loop
 mul-reals-2 c =
     let at-step = c .before .before .before in
-    omega (arith, steps-to at-step _ (c .before .t3 .given .1) .0, kept-reals at-step, at-step .before .before .before .before .before .before .before .before .before .before .before .before .before .before .before .before .before .good .1 .1 .0 .1)
+    omega (arith, steps-to at-step _ (c .before .t3 .given .1) .0, kept-reals at-step, at-step .before .before .before .before .before .before .before .before .before .before .before .before .before .before .before .before .before .good .1 .1 .1 .0 .1)
 
 slice-write-reals-2 : tie.Need-slice-write-reals-2 Inv-loop μ-loop
 slice-write-reals-2 c = steps-to (c .before .before .before) _ (c .before .t3 .given .1) .0
@@ -195,8 +202,8 @@ unfolding lib.Ieee.ofBits
 returns-2 c =
     let cleared = c .before .before .before .before .clear2 .ensures in
     let p = c .before .before .before .before .before .before .before .before .before .before in
-    refuses-with (text p) (lent-records p) (lent-reals p) _ _ (cleared .0 ∙ ap (λ (n : ℕ). replicate n 0) (kept-records p)) (cleared .1 ∙ ap (λ (n : ℕ). replicate n zeroReal) (kept-reals p)) _ _
-    (reads-as (text p) (lent-records p) (lent-reals p) _ _ _ _ (inv p) (kept-records p) (kept-reals p) ∙ steps-to p _ (c .before .before .before .before .before .before .before .before .reason .given .1))
+    refuses-with (mode p) (text p) (lent-records p) (lent-reals p) _ _ (cleared .0 ∙ ap (λ (n : ℕ). replicate n 0) (kept-records p)) (cleared .1 ∙ ap (λ (n : ℕ). replicate n zeroReal) (kept-reals p)) _ _
+    (reads-as (mode p) (text p) (lent-records p) (lent-reals p) _ _ _ _ (inv p) (in-mode p) (kept-records p) (kept-reals p) ∙ steps-to p _ (c .before .before .before .before .before .before .before .before .reason .given .1))
 
 enum-told : tie.Need-enum-told Inv-loop μ-loop
 enum-told c = search needs
@@ -210,7 +217,7 @@ same-length-6 c = kept-reals (c .before .before)
 returns-3 : tie.Need-returns-3 Inv-loop μ-loop
 returns-3 c =
     let p = c .before .before in
-    ends-accepted (text p) (lent-records p) (lent-reals p) _ _ _ _ (inv p) (kept-records p) (kept-reals p) _ _ (steps-to p _ (c .enum-told .given .1))
+    ends-accepted (mode p) (text p) (lent-records p) (lent-reals p) _ _ _ _ (inv p) (in-mode p) (kept-records p) (kept-reals p) _ _ (steps-to p _ (c .enum-told .given .1))
 
 pub run-spec : {M : Type 1} → statement M
 run-spec =

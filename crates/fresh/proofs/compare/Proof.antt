@@ -48,21 +48,21 @@ enum-known-count : tie.Need-enum-known-count
 enum-known-count c = search needs
 
 -- the parts that were lent to the reader come back as long as they were
-kept-records : (c : tie.After-read) → length (c .read .last .1 .0) ≡ c .before .before .before .before .least .result
-kept-records c = let h : c .before .before .before .before .least .result ≤ 10240 = omega arith in c .read .kept .1 .0 ∙ length-take-le _ _ h
+kept-records : (c : tie.After-read) → length (c .read .last .1 .1 .0) ≡ c .before .before .before .before .least .result
+kept-records c = let h : c .before .before .before .before .least .result ≤ 10240 = omega arith in c .read .kept .1 .1 .0 ∙ length-take-le _ _ h
 
-kept-reals : (c : tie.After-read) → length (c .read .last .1 .1 .0) ≡ c .before .before .before .least2 .result
-kept-reals c = let h : c .before .before .before .least2 .result ≤ 4096 = omega arith in c .read .kept .1 .1 .0 ∙ length-take-le _ _ h
+kept-reals : (c : tie.After-read) → length (c .read .last .1 .1 .1 .0) ≡ c .before .before .before .least2 .result
+kept-reals c = let h : c .before .before .before .least2 .result ≤ 4096 = omega arith in c .read .kept .1 .1 .1 .0 ∙ length-take-le _ _ h
 
 array-share-prefix-fresh-records : tie.Need-array-share-prefix-fresh-records
 array-share-prefix-fresh-records c =
     let at-read = c .before .before .before .before .before in
-    front-within (at-read .read .last .1 .0) _ (kept-records at-read)
+    front-within (at-read .read .last .1 .1 .0) _ (kept-records at-read)
 
 slice-aggregate-same-numbers : tie.Need-slice-aggregate-same-numbers
 slice-aggregate-same-numbers c =
     let at-read = c .before .before .before .before .before .before in
-    sym (length-take-le _ _ (front-within (at-read .read .last .1 .0) _ (kept-records at-read)))
+    sym (length-take-le _ _ (front-within (at-read .read .last .1 .1 .0) _ (kept-records at-read)))
 
 same-numbers-requires : tie.Need-same-numbers-requires
 same-numbers-requires c κs = search needs
@@ -70,27 +70,27 @@ same-numbers-requires c κs = search needs
 array-share-prefix-fresh-reals : tie.Need-array-share-prefix-fresh-reals
 array-share-prefix-fresh-reals c =
     let at-read = c .before .before .before .before .before .before .before in
-    front-within (at-read .read .last .1 .1 .0) _ (kept-reals at-read)
+    front-within (at-read .read .last .1 .1 .1 .0) _ (kept-reals at-read)
 
 slice-aggregate-same-reals : tie.Need-slice-aggregate-same-reals
 slice-aggregate-same-reals c =
     let at-read = c .before .before .before .before .before .before .before .before in
-    sym (length-take-le _ _ (front-within (at-read .read .last .1 .1 .0) _ (kept-reals at-read)))
+    sym (length-take-le _ _ (front-within (at-read .read .last .1 .1 .1 .0) _ (kept-reals at-read)))
 
 same-reals-requires : tie.Need-same-reals-requires
 same-reals-requires c κs = search needs
 
 -- both tests together say whether the tables are those of the reading
-compared : (c : tie.After-same-reals) (t : Bool) → (c .before .before .same-numbers .result && c .same-reals .result) ≡ t → let s = c .before .before .before .before .before .before .before .before .before .before .before .before .before .before .before .before .before in cond t (Same (c .before .before .before .before .before .count .given .0 .0)) (Refused 22 0) ≡ freshOf (s .args .text .now) (s .args .records .now) (s .args .reals .now) (readInto (s .args .text .now) (s .args .records .now) (s .args .reals .now))
+compared : (c : tie.After-same-reals) (t : Bool) → (c .before .before .same-numbers .result && c .same-reals .result) ≡ t → let s = c .before .before .before .before .before .before .before .before .before .before .before .before .before .before .before .before .before in cond t (Same (c .before .before .before .before .before .count .given .0 .0)) (Refused 22 0) ≡ freshOf (s .args .text .now) (s .args .records .now) (s .args .reals .now) (readInto (s .args .mode) (s .args .text .now) (s .args .records .now) (s .args .reals .now))
 compared c t e =
     let m = c .before .before .before .before .before .before .before .before .before in
     let s = m .before .before .before .before .before .before .before .before in
-    tables-compared (s .args .records .now) (s .args .reals .now) (s .args .text .now) _ _
-    (sym (m .read .kept .1 .0) ∙ kept-records m ∙ m .before .before .before .before .least .ensures)
-    (sym (m .read .kept .1 .1 .0) ∙ kept-reals m ∙ m .before .before .before .least2 .ensures)
+    tables-compared (s .args .mode) (s .args .records .now) (s .args .reals .now) (s .args .text .now) _ _
+    (sym (m .read .kept .1 .1 .0) ∙ kept-records m ∙ m .before .before .before .before .least .ensures)
+    (sym (m .read .kept .1 .1 .1 .0) ∙ kept-reals m ∙ m .before .before .before .least2 .ensures)
     _ _ _ _ (rw (c .before .before .before .before .before .count .given .1) at (m .read .ensures)) _ _ t
-    (c .before .before .same-numbers .ensures ∙ ap (λ (xs : List ℕ). same (s .args .records .now) (filled 0 (length (s .args .records .now)) xs)) (take-at (m .read .last .1 .0) _ _ (kept-records m)))
-    (c .same-reals .ensures ∙ ap (λ (ys : List Float). sameReals (s .args .reals .now) (filled zeroReal (length (s .args .reals .now)) ys)) (take-at (m .read .last .1 .1 .0) _ _ (kept-reals m)))
+    (c .before .before .same-numbers .ensures ∙ ap (λ (xs : List ℕ). same (s .args .records .now) (filled 0 (length (s .args .records .now)) xs)) (take-at (m .read .last .1 .1 .0) _ _ (kept-records m)))
+    (c .same-reals .ensures ∙ ap (λ (ys : List Float). sameReals (s .args .reals .now) (filled zeroReal (length (s .args .reals .now)) ys)) (take-at (m .read .last .1 .1 .1 .0) _ _ (kept-reals m)))
     e
 
 returns : tie.Need-returns
@@ -100,9 +100,9 @@ returns-2 : tie.Need-returns-2
 returns-2 c =
     let m = c .before .before .before .before .before in
     let s = m .before .before .before .before .before .before .before .before in
-    tables-refused (s .args .records .now) (s .args .reals .now) (s .args .text .now) _ _
-    (sym (m .read .kept .1 .0) ∙ kept-records m ∙ m .before .before .before .before .least .ensures)
-    (sym (m .read .kept .1 .1 .0) ∙ kept-reals m ∙ m .before .before .before .least2 .ensures)
+    tables-refused (s .args .mode) (s .args .records .now) (s .args .reals .now) (s .args .text .now) _ _
+    (sym (m .read .kept .1 .1 .0) ∙ kept-records m ∙ m .before .before .before .before .least .ensures)
+    (sym (m .read .kept .1 .1 .1 .0) ∙ kept-reals m ∙ m .before .before .before .least2 .ensures)
     _ _ _ _ (rw (c .before .reason .given .1) at (m .read .ensures))
 
 returns-3 : tie.Need-returns-3

@@ -5,10 +5,14 @@ use Rattle.host_saves.proofs.tell_written.Statement.{statement}
 use Rattle.host_saves.proofs.tell_written.Tie as tie
 
 returns : tie.Need-returns
-returns c = written-told _ _ _ _ _ _ (rw (c .before .before .len .given .1) at (c .before .before .before .before .before .before .write .ensures))
+returns c =
+    let at-write = c .before .before .before .before .before .before in
+    written-told _ _ (at-write .before .before .mode-of .ensures) _ _ _ _ _ _ (rw (c .before .before .len .given .1) at (at-write .write .ensures))
 
 returns-2 : tie.Need-returns-2
-returns-2 c = written-told _ _ _ _ _ _ (rw (c .before .before .reason .given .1) at (c .before .before .before .before .before .before .write .ensures))
+returns-2 c =
+    let at-write = c .before .before .before .before .before .before in
+    written-told _ _ (at-write .before .before .mode-of .ensures) _ _ _ _ _ _ (rw (c .before .before .reason .given .1) at (at-write .write .ensures))
 
 pub tell-written-spec : {M : Type 1} → statement M
-tell-written-spec = tie.close (tie.spec (λ c κs. tt) (λ c. search needs) (λ c. search needs) (λ c. search needs) returns (λ c. search needs) returns-2)
+tell-written-spec = tie.close (tie.spec (λ c κs. tt) (λ c κs. tt) (λ c. search needs) (λ c. search needs) (λ c. search needs) returns (λ c. search needs) returns-2)

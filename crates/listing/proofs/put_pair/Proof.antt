@@ -1,6 +1,6 @@
 -- `listing::put_pair` meets its contract.
 use mathlib.Core.List.{_++_}
-use Rattle.buffer.proofs.PutLaws.{shown, shown-more, count}
+use Rattle.buffer.proofs.PutLaws.{shown, shown-more}
 use Rattle.buffer.specs.Decimal.{decimal}
 use Rattle.laws.specs.Bytes.{bytes}
 use borrow.Author.Needs.{needs}
@@ -23,7 +23,7 @@ returns c =
     let a = first .before .before .before .before .before .args in
     let s = shown (first .put-field .ensures .0) (first .put-field .ensures .1) in
     let t = shown-more (a .second .now ++ decimal (a .m) ++ bytes "\n") s (second .put-last .ensures .0) (second .put-last .ensures .1) in
-    (t .text, count t)
+    (t .text, t .end)
 
 pub put-pair-spec : {M : Type 1} → statement M
 put-pair-spec = tie.close (tie.spec put-field-requires put-last-requires same-length returns)

@@ -20,7 +20,7 @@ same-length-2 : tie.Need-same-length-2
 same-length-2 c = search needs
 
 returns : tie.Need-returns
-returns c = reads-as _ _ _ _ _ _ (c .before .before .before .before .before .before .before .run .ensures) _ (c .before .n .given .1)
+returns c = reads-as _ _ _ _ _ _ _ (c .before .before .before .before .before .before .before .run .ensures) _ (c .before .n .given .1)
 
 same-length-3 : tie.Need-same-length-3
 same-length-3 c = search needs
@@ -29,7 +29,7 @@ same-length-4 : tie.Need-same-length-4
 same-length-4 c = search needs
 
 returns-2 : tie.Need-returns-2
-returns-2 c = reads-as _ _ _ _ _ _ (c .before .before .before .before .before .before .before .run .ensures) _ (c .before .reason .given .1)
+returns-2 c = reads-as _ _ _ _ _ _ _ (c .before .before .before .before .before .before .before .run .ensures) _ (c .before .reason .given .1)
 
 pub read-spec : {M : Type 1} → statement M
 read-spec =

@@ -1,29 +1,32 @@
 -- `tidy::tidy_all` is safe, and ends.
-use Prim.Native.Nat.{_-_, _≤_}
+use Prim.Native.Nat.{_-_}
 use borrow.Author.Needs.{needs}
 use Rattle.tidy.proofs.tidy_all.Statement.{statement}
 use Rattle.tidy.proofs.tidy_all.Tie as tie
 
 abbrev Inv-loop : tie.InvT-loop
-Inv-loop count number₀ number = number ≤ count
+Inv-loop mode end number₀ number = Unit {0}
 
 abbrev μ-loop : tie.MeasureT-loop
-μ-loop count number₀ number = count - number
+μ-loop mode end number₀ number = end - number
 
-count-requires : tie.Need-count-requires Inv-loop μ-loop
-count-requires c κs = search needs
+end-requires : tie.Need-end-requires Inv-loop μ-loop
+end-requires c κs = search needs
+
+first-requires : tie.Need-first-requires Inv-loop μ-loop
+first-requires c κs = search needs
 
 loop-holds : tie.Need-loop-holds Inv-loop μ-loop
 loop-holds c = search needs
-
-add-number : tie.Need-add-number Inv-loop μ-loop
-add-number c = search needs
 
 tidy-text-requires : tie.Need-tidy-text-requires Inv-loop μ-loop
 tidy-text-requires c κs = search needs
 
 returns : tie.Need-returns Inv-loop μ-loop
 returns c = search needs
+
+add-number : tie.Need-add-number Inv-loop μ-loop
+add-number c = search needs
 
 loop-less : tie.Need-loop-less Inv-loop μ-loop
 loop-less c = search needs
@@ -40,11 +43,12 @@ tidy-all-spec =
     (tie.spec
     Inv-loop
     μ-loop
-    count-requires
+    end-requires
+    first-requires
     loop-holds
-    add-number
     tidy-text-requires
     returns
+    add-number
     loop-less
     loop-again
     returns-2)

@@ -31,7 +31,7 @@ returns c =
     let w = c .before .before .before .before .before .before .before in
     let m = w .before .before .before .before .before in
     let a = m .before .before .before .before .before .args in
-    writes-too-long (a .text .now) (a .records .now) (a .reals .now) (a .out .now) _ (sym (w .before .before .before .count .given .1) ∙ m .compare .ensures) (w .put-records .ensures) (c .before .before .before .before .if1 .taken) (c .before .before .clear-from2 .ensures)
+    writes-too-long (a .mode) (a .text .now) (a .records .now) (a .reals .now) (a .out .now) _ (sym (w .before .before .before .count .given .1) ∙ m .compare .ensures) (w .put-records .ensures) (c .before .before .before .before .if1 .taken) (c .before .before .clear-from2 .ensures)
 
 clear-from-requires-3 : tie.Need-clear-from-requires-3
 clear-from-requires-3 c κs = search needs
@@ -43,7 +43,7 @@ returns-2 : tie.Need-returns-2
 returns-2 c =
     let m = c .before .before .before .before .before .before .before in
     let a = m .before .before .before .before .before .args in
-    writes-refused (a .text .now) (a .records .now) (a .reals .now) (a .out .now) _ _ (sym (c .before .before .before .before .before .reason .given .1) ∙ m .compare .ensures) (c .before .before .clear-from .ensures)
+    writes-refused (a .mode) (a .text .now) (a .records .now) (a .reals .now) (a .out .now) _ _ (sym (c .before .before .before .before .before .reason .given .1) ∙ m .compare .ensures) (c .before .before .clear-from .ensures)
 
 same-length-3 : tie.Need-same-length-3
 same-length-3 c = search needs
@@ -53,7 +53,7 @@ returns-3 c =
     let w = c .before .before .before .before .before .before .before in
     let m = w .before .before .before .before .before in
     let a = m .before .before .before .before .before .args in
-    writes-all (a .text .now) (a .records .now) (a .reals .now) (a .out .now) _ (sym (w .before .before .before .count .given .1) ∙ m .compare .ensures) (w .put-records .ensures) (c .before .before .before .before .if1 .left) (c .before .before .clear-from3 .ensures)
+    writes-all (a .mode) (a .text .now) (a .records .now) (a .reals .now) (a .out .now) _ (sym (w .before .before .before .count .given .1) ∙ m .compare .ensures) (w .put-records .ensures) (c .before .before .before .before .if1 .left) (c .before .before .clear-from3 .ensures)
 
 pub write-spec : {M : Type 1} → statement M
 write-spec =

@@ -1,17 +1,20 @@
--- `input::has_option` ends.
-use Prim.Native.Nat.{_+_, _-_, _≤_}
+-- `input::has_unknown_option` ends.
+use Prim.Native.Nat.{_-_}
 use borrow.Author.Needs.{needs}
-use Rattle.input.proofs.has_option.Statement.{statement}
-use Rattle.input.proofs.has_option.Tie as tie
+use Rattle.input.proofs.has_unknown_option.Statement.{statement}
+use Rattle.input.proofs.has_unknown_option.Tie as tie
 
 abbrev Inv-loop : tie.InvT-loop
-Inv-loop count i₀ i = i ≤ count + 1
+Inv-loop count i₀ i = Unit {0}
 
 abbrev μ-loop : tie.MeasureT-loop
 μ-loop count i₀ i = count - i
 
 arg-count-requires : tie.Need-arg-count-requires Inv-loop μ-loop
 arg-count-requires c κs = search needs
+
+first-requires : tie.Need-first-requires Inv-loop μ-loop
+first-requires c κs = search needs
 
 loop-holds : tie.Need-loop-holds Inv-loop μ-loop
 loop-holds c = search needs
@@ -34,13 +37,14 @@ loop-again c = search needs
 returns-2 : tie.Need-returns-2 Inv-loop μ-loop
 returns-2 c = search needs
 
-pub has-option-spec : {M : Type 1} → statement M
-has-option-spec =
+pub has-unknown-option-spec : {M : Type 1} → statement M
+has-unknown-option-spec =
     tie.close
     (tie.spec
     Inv-loop
     μ-loop
     arg-count-requires
+    first-requires
     loop-holds
     is-option-requires
     returns

@@ -1,0 +1,28 @@
+-- A mode by its number, and an answer of the reader told by its numbers.
+use mathlib.Core.List.{List, [], _∷_}
+use mathlib.Core.Path.{_≡_, ap, subst}
+use Prim.Native.Nat.{ℕ}
+use borrow.Author.Tests.{eq-eqb, ne-eqb}
+use lib.Ieee.{Float}
+use Rattle.laws.specs.Bytes.{Bytes}
+use Rattle.reader.specs.Answer.{Reads, numbersOf}
+use Rattle.reader.specs.declared.Answer.{Answer}
+use Rattle.scene.specs.Record.{Answer as Numbers}
+use Rattle.scene.specs.declared.Mode.{Mode}
+use Rattle.scene.specs.declared.Mode.the-variants.{New, Archive}
+use Rattle.host_scenes.specs.Host.{HostReads, modeOf}
+
+pub mode-archive : (number : ℕ) → number ≡ 1 → Archive ≡ modeOf number
+unfolding modeOf
+mode-archive number h = rw (eq-eqb number 1 h)
+
+pub mode-new : (number : ℕ) → (number ≡ 1 → ⊥) → New ≡ modeOf number
+unfolding modeOf
+mode-new number h = rw (ne-eqb number 1 h)
+
+module _ (number : ℕ) (mode : Mode) (q : mode ≡ modeOf number) where
+  pub reading-told : (text : Bytes) (records : List ℕ) (reals : List Float) (a : Answer) (records′ : List ℕ) (reals′ : List Float) → Reads mode text records reals a records′ reals′
+      → let n = numbersOf a in HostReads number text records reals (n .reason) (n .place ∷ n .primitives ∷ n .reals ∷ []) records′ reals′
+  reading-told text records reals a records′ reals′ R =
+      let e = subst (λ (m : Mode). Reads m text records reals a records′ reals′) q R in
+      record { says = ap (λ (z : Numbers). z .reason) (e .numbers); numbers = ap (λ (z : Numbers). z .place ∷ z .primitives ∷ z .reals ∷ []) (e .numbers); table = e .table; doubles = e .doubles }

@@ -33,7 +33,7 @@ enum kribbelsteen_mode { KRIBBELSTEEN_NEW = 0, KRIBBELSTEEN_ARCHIVE = 1 };
 #define KRIBBELSTEEN_MOST_REALS 4096
 
 /* Numbers in a record, and where each stands in it. Record n begins at entry KRIBBELSTEEN_RECORD * (n - 1). */
-#define KRIBBELSTEEN_RECORD 10
+#define KRIBBELSTEEN_RECORD 11
 enum kribbelsteen_field {
     KRIBBELSTEEN_TYPE = 0,         /* 1 source to 9 ring: surfaces; 10 light to 24 antimatter: materials; 25 mixfunc */
     KRIBBELSTEEN_MODIFIER = 1,     /* the primitive that the modifier leads to, 0 for `void` */
@@ -44,7 +44,8 @@ enum kribbelsteen_field {
     KRIBBELSTEEN_STRINGS = 6,      /* how many strings */
     KRIBBELSTEEN_REAL = 7,         /* index of the first real in the table of reals, 0 also if there is none */
     KRIBBELSTEEN_REALS = 8,        /* how many reals */
-    KRIBBELSTEEN_NEXT = 9          /* the next primitive of the same name, surfaces left out; 0 if there is none, and for a surface */
+    KRIBBELSTEEN_NEXT = 9,         /* the next primitive of the same name, surfaces left out; 0 if there is none, and for a surface */
+    KRIBBELSTEEN_LINE = 10         /* the line on which the name stands, from 1 */
 };
 
 /* Why something is refused. */
@@ -91,7 +92,7 @@ enum kribbelsteen_state { KRIBBELSTEEN_ONLY_LEFT = 1, KRIBBELSTEEN_ONLY_RIGHT = 
 
 /* Reads a scene text, in a mode, into two tables.
  *
- * There is room for the lesser of 1,024 and records_len / 10 records, and for the lesser of 4,096 and reals_len reals.
+ * There is room for the lesser of 1,024 and records_len / 11 records, and for the lesser of 4,096 and reals_len reals.
  * Returns 0 if the scene is accepted, else the reason, 1 to 16 or 28; the earliest place decides, and at one place the lowest
  * number.
  * answer: place of the refusal, number of primitives, number of reals. An accepted scene has place 0, a refused one both
@@ -165,7 +166,7 @@ uint32_t kribbelsteen_next_line(const uint8_t *left, size_t left_len, const uint
  * enough.
  *
  * The tables may hold anything: they are compared with a fresh reading of the text, in the mode, into tables of the same lengths,
- * which takes about 75 KB of stack. The used parts of longer tables will do.
+ * which takes about 79 KB of stack. The used parts of longer tables will do.
  * Returns 0, or refuses: 1 to 16 or 28 as that reading does, then 22 if the tables differ from its tables in any entry or bit, then 23 if
  * the text is longer than the output.
  * answer: place of the refusal, bytes of the tidy text. A written scene has place 0, a refused one length 0.

@@ -53,8 +53,8 @@ with tempfile.TemporaryDirectory() as folder:
     (crate / "src" / "lib.rt").write_text("// Rows computed from the definitions.\n")
     (crate / "specs" / "Lib.antt").write_text("pub mod Rows\n")
     head = [line.replace("Rattle.scene.specs", "Rattle.scene") for line in uses]
-    head += ["use mathlib.Core.List.{map}", "use lib.Ieee.{binary64}", "use Rattle.scene.specs.Record.{answer, flat, fields}"]
-    everything = "everything : ℕ\nunfolding " + names[0] + " " + names[1].replace("readings ", "") + " flat toBits\neverything = 0\n"
+    head += ["use mathlib.Core.List.{map}", "use lib.Ieee.{binary64}", "use Rattle.scene.specs.Record.{answer, flat, fields, newlines}"]
+    everything = "everything : ℕ\nunfolding " + names[0] + " " + names[1].replace("readings ", "") + " flat newlines toBits\neverything = 0\n"
     facts = (
         "facts : Settings → Bytes → List ℕ\n"
         "facts r t = let x = read r t in let a = answer x in a .reason ∷ a .place ∷ a .primitives ∷ a .reals ∷ flat t (records (entries x)) ++ map (toBits binary64) (realTable (entries x))\n"

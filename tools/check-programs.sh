@@ -28,7 +28,7 @@ finishes=$("$bin/finishes" <$scene)$'\n'
 tidy=$("$bin/tidy" <$scene)$'\n'
 head -c 65536 /dev/zero | tr '\0' '#' >"$scratch/fits"
 head -c 65537 /dev/zero | tr '\0' '#' >"$scratch/long"
-printf 'wall' >"$scratch/refused"
+printf '\n# note\nwall' >"$scratch/refused"
 full='standard output: No space left on device'$'\n'
 
 # One file is answered as standard input is, and several each under a heading.
@@ -58,15 +58,17 @@ expect '$bin/compare $scene samples' $'scene=right unreadable\n' ''
 # 65,536 bytes fit, and one more does not.
 expect '$bin/list <$scratch/fits' $'primitives=0 reals=0\n' ''
 expect '$bin/words <$scratch/fits' "place=0 word=$(cat "$scratch/fits")"$'\n' ''
-for program in list finishes words numerals; do
+for program in list words numerals; do
     expect '$bin/$program <$scratch/long' $'refused=1 place=0\n' ''
 done
 expect '$bin/list $scratch/long' $'refused=1 place=0\n' ''
-expect '$bin/tidy <$scratch/long' $'refused=1 place=0\n' $'refused=1 place=0\n'
+expect '$bin/finishes <$scratch/long' $'refused=1 place=0 line=1\n' ''
+expect '$bin/tidy <$scratch/long' $'refused=1 place=0 line=1\n' $'refused=1 place=0 line=1\n'
 
 # A refusal is told from a tidy text by standard error.
-expect '$bin/tidy <$scratch/refused' $'refused=7 place=0\n' $'refused=7 place=0\n'
-expect '$bin/tidy $scratch/refused' $'refused=7 place=0\n' "scene=$scratch/refused refused=7 place=0"$'\n'
+expect '$bin/tidy <$scratch/refused' $'refused=7 place=8 line=3\n' $'refused=7 place=8 line=3\n'
+expect '$bin/tidy $scratch/refused' $'refused=7 place=8 line=3\n' "scene=$scratch/refused refused=7 place=8 line=3"$'\n'
+expect '$bin/finishes <$scratch/refused' $'refused=7 place=8 line=3\n' ''
 
 # A write that fails is said once, and is the last. A file that is opened may get the number of a closed standard output.
 for program in list finishes tidy words numerals; do
@@ -89,7 +91,7 @@ done
 
 # The archive reading, on standard input, of a file and of several.
 old=samples/truck-four.rad
-retired=$'refused=28 place=120\n'
+retired=$'refused=28 place=120 line=4\n'
 archive='archive=1
 primitives=6 reals=25
 no=1 mod=0 alias=0 type=plastic name=deskfront next=0
@@ -99,16 +101,16 @@ no=4 mod=1 alias=0 type=polygon name=desk next=0
 no=5 mod=2 alias=0 type=sphere name=hatch next=0
 no=6 mod=3 alias=0 type=sphere name=keyhole next=0
 '
-old_finishes='no=4 type=polygon name=desk finish=1 finish_name=deskfront links=1
-no=5 type=sphere name=hatch finish=2 finish_name=opening links=1
-no=6 type=sphere name=keyhole finish=3 finish_name=slot links=1
+old_finishes='no=4 line=7 type=polygon name=desk finish=1 finish_name=deskfront finish_line=2 nth=1 of=1 links=1
+no=5 line=9 type=sphere name=hatch finish=2 finish_name=opening finish_line=4 nth=1 of=1 links=1
+no=6 line=11 type=sphere name=keyhole finish=3 finish_name=slot finish_line=6 nth=1 of=1 links=1
 '
-expect '$bin/list $old' "$retired" ''
+expect '$bin/list $old' $'refused=28 place=120\n' ''
 expect '$bin/list --archive $old' "$archive" ''
 expect '$bin/list --archive <$old' "$archive" ''
 expect '$bin/list --archive $scene' $'archive=1\n'"$listing" ''
 expect '$bin/list --archive $scene $old' "scene=$scene"$'\narchive=1\n'"${listing}scene=$old"$'\n'"$archive" ''
-expect '$bin/list --archive <$scratch/refused' $'refused=7 place=0\n' ''
+expect '$bin/list --archive <$scratch/refused' $'refused=7 place=8\n' ''
 expect '$bin/finishes $old' "$retired" ''
 expect '$bin/finishes --archive $old' "$old_finishes" ''
 expect '$bin/finishes --archive <$old' "$old_finishes" ''

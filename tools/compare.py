@@ -24,7 +24,7 @@ def contents(text, records, reals):
         keys.append((name, times[name]))
     found = {}
     for key, record in zip(keys[1:], records):
-        kind, modifier, target, _, _, place, strings, index, count, _ = record
+        kind, modifier, target, _, _, place, strings, index, count, _, _ = record
         words = text[place:].split(maxsplit=strings)[:strings]
         found[key] = (kind, words, reals[index : index + count], keys[target], keys[modifier])
     return found

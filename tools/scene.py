@@ -3,8 +3,8 @@
 
     tools/scene.py [--archive] [finishes] < TEXT        the listing of a text or its finishes, or its refusal
 
-read(archive, text, record_room, real_room) gives (reason, place) for a refused text, else (records, reals): lists of ten numbers,
-and the bits of the doubles. Only the archive reading accepts antimatter."""
+read(archive, text, record_room, real_room) gives (reason, place) for a refused text, else (records, reals): lists of eleven
+numbers, and the bits of the doubles. Only the archive reading accepts antimatter."""
 import sys
 
 import numerals
@@ -69,6 +69,11 @@ def count(word):
     return int(word) if 1 <= len(word) <= 5 and all(48 <= b <= 57 for b in word) else None
 
 
+def line_of(text, place):
+    """The line of a place, from 1."""
+    return text.count(b"\n", 0, place) + 1
+
+
 class Reader:
     def __init__(self, archive, text, record_room, real_room):
         self.archive = archive
@@ -129,7 +134,7 @@ class Reader:
             if number == 0:
                 raise Refused(10, place)
             source = self.records[number - 1]
-            record = [source[0], link, number, at, len(name)] + source[5:9] + [0]
+            record = [source[0], link, number, at, len(name)] + source[5:9] + [0, line_of(self.text, at)]
         else:
             kind = kind.decode()
             if kind not in TYPES:
@@ -137,7 +142,7 @@ class Reader:
             if kind == "antimatter" and not self.archive:
                 raise Refused(28, place)
             name, at = self.named()
-            record = [TYPES.index(kind) + 1, link, 0, at, len(name)] + self.arguments(kind) + [0]
+            record = [TYPES.index(kind) + 1, link, 0, at, len(name)] + self.arguments(kind) + [0, line_of(self.text, at)]
         earlier = self.latest(name)
         if earlier and record[0] > LAST_SURFACE:
             self.records[earlier - 1][9] = len(self.records) + 1
@@ -213,20 +218,26 @@ def finish(records, number):
     return at, links
 
 
+def refusal(archive, text):
+    """The line of a refused text in all programs but list and compare; none for an accepted one."""
+    reason, place = read(archive, text)
+    return "refused=%d place=%d line=%d\n" % (reason, place, line_of(text, place)) if isinstance(reason, int) else None
+
+
 def finishes(archive, text):
-    records, reals = read(archive, text)
+    records, _ = read(archive, text)
     if isinstance(records, int):
-        return "refused=%d place=%d\n" % (records, reals)
+        return refusal(archive, text)
 
-    def name(number):
-        at, size = records[number - 1][3:5] if number else (0, 0)
-        return text[at : at + size].decode()
-
+    names = [text[r[3] : r[3] + r[4]].decode() for r in records]
     lines = []
     for number, r in enumerate(records, 1):
         if r[0] <= LAST_SURFACE:
             at, links = finish(records, number)
-            lines.append("no=%d type=%s name=%s finish=%d finish_name=%s links=%d\n" % (number, TYPES[r[0] - 1], name(number), at, name(at), links))
+            name, line = (names[at - 1], records[at - 1][10]) if at else ("", 0)
+            nth, of = names[:at].count(name), names.count(name)
+            lines.append("no=%d line=%d type=%s name=%s" % (number, r[10], TYPES[r[0] - 1], names[number - 1]))
+            lines.append(" finish=%d finish_name=%s finish_line=%d nth=%d of=%d links=%d\n" % (at, name, line, nth, of, links))
     return "".join(lines)
 
 

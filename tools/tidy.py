@@ -51,9 +51,9 @@ def lines(text):
 
 
 def tidied(archive, text):
-    answer = scene.listing(archive, text)
-    if answer.startswith("refused="):
-        return answer.encode()
+    refusal = scene.refusal(archive, text)
+    if refusal:
+        return refusal.encode()
     tidy = b"".join(b" ".join(words) + b"\n" for words in lines(text))
     return tidy if len(tidy) <= LONGEST else b"refused=23 place=0\n"
 

@@ -8,13 +8,14 @@ pub const LONGEST_WORD: usize = 64;
 pub const MOST_RECORDS: usize = 1_024;
 pub const MOST_REALS: usize = 4_096;
 /// How many numbers a record has.
-pub const RECORD: usize = 10;
+pub const RECORD: usize = 11;
 
 const TYPE: usize = 0;
 const MODIFIER: usize = 1;
 const NAME: usize = 3;
 const NAME_LENGTH: usize = 4;
 const NEXT: usize = 9;
+const LINE: usize = 10;
 
 /// Why a scene is refused, and where.
 #[derive(Clone, Copy, Debug, PartialEq, Eq)]
@@ -295,6 +296,9 @@ struct Reader<'t, 'm> {
     reals: &'m mut [f64],
     real_room: usize,
     reals_used: usize,
+    /// The line of a place up to which line ends are counted.
+    line: u32,
+    counted: usize,
     /// The number of the latest primitive of each name.
     latest: HashMap<&'t [u8], usize>,
 }
@@ -311,6 +315,8 @@ impl<'t, 'm> Reader<'t, 'm> {
             real_room: MOST_REALS.min(reals.len()),
             reals,
             reals_used: 0,
+            line: 1,
+            counted: 0,
             latest: HashMap::new(),
         }
     }
@@ -375,8 +381,17 @@ impl<'t, 'm> Reader<'t, 'm> {
         record[MODIFIER] = modifier as u32;
         record[NAME] = name.place as u32;
         record[NAME_LENGTH] = name.bytes.len() as u32;
+        record[LINE] = self.line(name.place);
         self.enter(name, &record);
         Ok(())
+    }
+
+    /// The line of a place, from 1: one more than the line ends before it, of which those before the last name are counted.
+    fn line(&mut self, place: usize) -> u32 {
+        let passed = &self.text[self.counted..place];
+        self.line += passed.iter().filter(|&&b| b == b'\n').count() as u32;
+        self.counted = place;
+        self.line
     }
 
     fn modifier(&mut self) -> Result<usize, Refused> {
@@ -411,7 +426,7 @@ impl<'t, 'm> Reader<'t, 'm> {
         let number = self.lookup(word, 10)?;
         let at = RECORD * (number - 1);
         let found = &self.records[at..at + RECORD];
-        Ok([found[TYPE], 0, number as u32, 0, 0, found[5], found[6], found[7], found[8], 0])
+        Ok([found[TYPE], 0, number as u32, 0, 0, found[5], found[6], found[7], found[8], 0, 0])
     }
 
     /// A primitive's strings, integers and reals.
@@ -432,7 +447,7 @@ impl<'t, 'm> Reader<'t, 'm> {
         let first_real = if reals == 0 { 0 } else { self.reals_used };
         self.reals(kind, reals)?;
         let [string, strings, real, reals] = [first_string, strings, first_real, reals].map(|n| n as u32);
-        Ok([kind as u32, 0, 0, 0, 0, string, strings, real, reals, 0])
+        Ok([kind as u32, 0, 0, 0, 0, string, strings, real, reals, 0, 0])
     }
 
     /// A count that is allowed, and its place.

@@ -19,7 +19,7 @@
 //! ```
 //! use kribbelsteen::{Mode, Reason, Scene};
 //!
-//! let refusal = Scene::read(Mode::New, b"a sphere s 0 0 4 0 0 0 1", &mut [0; 10], &mut [0.0; 4]).unwrap_err();
+//! let refusal = Scene::read(Mode::New, b"a sphere s 0 0 4 0 0 0 1", &mut [0; 11], &mut [0.0; 4]).unwrap_err();
 //! assert_eq!(refusal.reason, Reason::NoModifier);
 //! assert_eq!(refusal.to_string(), "modifier not defined above (reason 7), at byte 0");
 //! ```
@@ -51,4 +51,4 @@ pub const MOST_PRIMITIVES: usize = 1_024;
 /// The most reals of a scene.
 pub const MOST_REALS: usize = 4_096;
 /// How many numbers of a lent table a primitive takes.
-pub const RECORD: usize = 10;
+pub const RECORD: usize = 11;

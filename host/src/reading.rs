@@ -145,7 +145,7 @@ pub struct Counts {
     pub reals: usize,
 }
 
-/// Reads a scene, in a mode, into both tables. There is room for a record in each ten numbers, at most 1,024 of them, and for at most 4,096
+/// Reads a scene, in a mode, into both tables. There is room for a record in each eleven numbers, at most 1,024 of them, and for at most 4,096
 /// reals. Entries beyond those used become 0, and all of them if the scene is refused.
 pub fn read(mode: Mode, text: &[u8], records: &mut [u32], reals: &mut [f64]) -> Result<Counts, Refusal> {
     let (number, [place, primitives, reals]) = raw::read(mode.number(), text, records, reals);
@@ -278,6 +278,11 @@ impl<'s> Primitive<'s> {
     pub fn reals(&self) -> &'s [f64] {
         let (first, count) = (self.field(7), self.field(8));
         &self.reals[first..first + count]
+    }
+
+    /// The line on which its name stands, from 1.
+    pub fn line(&self) -> usize {
+        self.field(10)
     }
 
     /// The next primitive of the same name, which hides this one from what stands below.

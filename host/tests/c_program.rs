@@ -5,10 +5,10 @@ use std::process::{Command, Output};
 
 const EXPECTED: &str = "\
 primitives=4 reals=14
-no=1 mod=0 type=15 name=wall finish=0 links=0
-no=2 mod=0 type=15 name=wall finish=0 links=0
-no=3 mod=2 type=2 name=lamp finish=2 links=1
-no=4 mod=0 type=15 name=trim finish=0 links=0
+no=1 line=2 mod=0 type=15 name=wall finish=0 links=0
+no=2 line=3 mod=0 type=15 name=wall finish=0 links=0
+no=3 line=4 mod=2 type=2 name=lamp finish=2 links=1
+no=4 line=5 mod=0 type=15 name=trim finish=0 links=0
 name 9: 17
 name, 9 stated: 18
 finish 3, no links: 19 0 0
@@ -21,8 +21,8 @@ finish 3, no links: 17 0 0
 refused=28 place=5
 refused=28 place=5
 primitives=2 reals=0
-no=1 mod=0 type=24 name=hole finish=0 links=0
-no=2 mod=1 type=24 name=slot finish=1 links=1
+no=1 line=1 mod=0 type=24 name=hole finish=0 links=0
+no=2 line=2 mod=1 type=24 name=slot finish=1 links=1
 name 9: 17
 name, 9 stated: 18
 finish 3, no links: 17 0 0

@@ -12,6 +12,7 @@ use kribbelsteen::raw;
 use made::{floats, numerals, scenes};
 use reference::random::Random;
 use reference::saves::{Comparison, Save};
+use reference::scene::RECORD;
 use reference::{rays, saves, scene, tidy};
 use std::collections::BTreeMap;
 use std::fmt::Debug;
@@ -188,8 +189,8 @@ impl Questions {
     /// All numbers of a table, and some that it has not.
     fn ask_all(&mut self, text: &[u8], records: &[u32], count: usize) {
         let before = records.to_vec();
-        let rows = records.len() / 10;
-        for number in (0..=count.min(rows) + 1).chain([count, usize::MAX, usize::MAX / 10 + 2]) {
+        let rows = records.len() / RECORD;
+        for number in (0..=count.min(rows) + 1).chain([count, usize::MAX, usize::MAX / RECORD + 2]) {
             self.ask(text, records, count, number);
         }
         assert!(records == before, "a question wrote the table");
@@ -199,7 +200,7 @@ impl Questions {
 /// Counts that a caller may state of a table.
 fn stated_count(random: &mut Random, rows: usize) -> usize {
     let near = [rows, rows, rows, rows + 1, rows.saturating_sub(1), 0];
-    let far = [1024, 1025, usize::MAX, usize::MAX / 10, usize::MAX / 10 + 1, 1 << 32];
+    let far = [1024, 1025, usize::MAX, usize::MAX / RECORD, usize::MAX / RECORD + 1, 1 << 32];
     *if random.percent(80) { random.pick(&near) } else { random.pick(&far) }
 }
 
@@ -220,7 +221,7 @@ fn scenes_are_read_alike() {
         }
         let count = answer.answer[1];
         asked.ask_all(&case.text, &records, count);
-        damaged_tables(&mut random, &mut damaged, &case.text, &records[..10 * count]);
+        damaged_tables(&mut random, &mut damaged, &case.text, &records[..RECORD * count]);
         words += compare_words(&mut random, &case.text);
     }
     read.report(reasons(), 10_000);
@@ -239,11 +240,11 @@ fn damaged_tables(random: &mut Random, asked: &mut Questions, text: &[u8], recor
         spoiled.truncate(records.len().saturating_sub(random.below(3)));
         scenes::spoil_table(random, &mut spoiled);
         let text = &text[..text.len() - random.below(text.len().min(20) + 1)];
-        let count = stated_count(random, records.len() / 10);
+        let count = stated_count(random, records.len() / RECORD);
         asked.ask_all(text, &spoiled, count);
     }
     let made = scenes::table(random, text.len().min(50));
-    let count = stated_count(random, made.len() / 10);
+    let count = stated_count(random, made.len() / RECORD);
     asked.ask_all(&text[..text.len().min(50)], &made, count);
 }
 
@@ -254,7 +255,7 @@ fn full(primitives: usize) -> Vec<u8> {
 
 /// A text with the largest tables that a reading can use.
 fn with_most(text: Vec<u8>) -> scenes::Case {
-    scenes::Case { mode: 0, text, records: 10_240, reals: 4_096 }
+    scenes::Case { mode: 0, text, records: RECORD * scene::MOST_RECORDS, reals: scene::MOST_REALS }
 }
 
 #[test]
@@ -274,20 +275,20 @@ fn limits_are_met_alike() {
     }
     // Every small table, for a scene of three records and eleven reals
     let text = b"void glow g 0 0 4 1 1 1 0\nvoid light l 0 0 3 1 2 3\ng sphere s 0 0 4 0 0 0 1\n";
-    for records in 0..=45 {
+    for records in 0..=50 {
         for reals in 0..=15 {
             compare_reading(&scenes::Case { mode: 0, text: text.to_vec(), records, reals });
         }
     }
     // Every beginning of a scene, and every byte in it changed
     for end in 0..=text.len() {
-        compare_reading(&scenes::Case { mode: 0, text: text[..end].to_vec(), records: 30, reals: 11 });
+        compare_reading(&scenes::Case { mode: 0, text: text[..end].to_vec(), records: 3 * RECORD, reals: 11 });
     }
     for at in 0..text.len() {
         for byte in 0..=255 {
             let mut text = text.to_vec();
             text[at] = byte;
-            compare_reading(&scenes::Case { mode: 0, text, records: 30, reals: 11 });
+            compare_reading(&scenes::Case { mode: 0, text, records: 3 * RECORD, reals: 11 });
         }
     }
 }
@@ -346,7 +347,7 @@ fn compare_lines(random: &mut Random, states: &mut Tally, left: Save, right: Sav
         line = next(held);
     }
     assert_eq!(lines, expected.len());
-    let most = left.records.len().max(right.records.len()) / scene::RECORD;
+    let most = left.records.len().max(right.records.len()) / RECORD;
     for number in [random.below(most + 1), random.below(most + 1), most + 1, usize::MAX] {
         for side in [0, 1, 2, usize::MAX] {
             // What else the line holds is not looked at
@@ -364,7 +365,7 @@ fn spoiled(random: &mut Random, records: &[u32]) -> Vec<u32> {
 
 /// Strings that both tables state are gone through one by one: so no record states many.
 fn limit_strings(mut records: Vec<u32>) -> Vec<u32> {
-    records.iter_mut().skip(6).step_by(scene::RECORD).for_each(|strings| *strings = (*strings).min(1_000));
+    records.iter_mut().skip(6).step_by(RECORD).for_each(|strings| *strings = (*strings).min(1_000));
     records
 }
 
@@ -379,7 +380,7 @@ fn saves_are_compared_alike() {
         let BothRead { reason, answer, records, reals } = compare_reading_both(&cases);
         read.add(reason);
         let ([left, right], [_, _, m, j, n, k]) = (&cases, answer);
-        let (a, b) = (&records[0][..10 * m], &records[1][..10 * n]);
+        let (a, b) = (&records[0][..RECORD * m], &records[1][..RECORD * n]);
         let (x, y) = (&reals[0][..j], &reals[1][..k]);
         let left = Save { text: &left.text, records: a, reals: x };
         let right = Save { text: &right.text, records: b, reals: y };
@@ -414,9 +415,9 @@ fn large_saves_are_compared_alike() {
     let cases = [full(1_024), full(1_023)].map(with_most);
     let BothRead { reason, answer, records, .. } = compare_reading_both(&cases);
     assert_eq!((reason, answer), (0, [0, 0, 1_024, 0, 1_023, 0]));
-    let [left, right] = [(0, 10_240), (1, 10_230)].map(|(side, used): (usize, usize)| Save {
+    let [left, right] = [(0, 1_024), (1, 1_023)].map(|(side, primitives): (usize, usize)| Save {
         text: &cases[side].text,
-        records: &records[side][..used],
+        records: &records[side][..RECORD * primitives],
         reals: &[],
     });
     let mut lines = Tally::new("lines of large tables (0 the end, then by state)");
@@ -467,12 +468,16 @@ fn tampered(random: &mut Random, records: &[u32], reals: &[f64]) -> (Vec<u32>, V
     (records, reals)
 }
 
-/// The tidy text of a scene reads back as the same table but for places, and is its own tidy text.
+/// The tidy text of a scene reads back as the same table but for places and lines, and is its own tidy text.
 fn read_back(mode: u32, tidy: &[u8], records: &[u32], reals: &[f64]) {
     let (mut again, mut doubles) = (vec![1; records.len()], vec![1.0; reals.len()]);
     assert_eq!(raw::read(mode, tidy, &mut again, &mut doubles).0, 0, "{:?}", String::from_utf8_lossy(tidy));
     let but_places = |records: &[u32]| -> Vec<u32> {
-        records.iter().enumerate().map(|(at, &number)| if matches!(at % 10, 3 | 5) { 0 } else { number }).collect()
+        records
+            .iter()
+            .enumerate()
+            .map(|(at, &number)| if matches!(at % RECORD, 3 | 5 | 10) { 0 } else { number })
+            .collect()
     };
     assert!(but_places(&again) == but_places(records) && bits(&doubles).eq(bits(reals)));
     assert_eq!(compare_writing(mode, tidy, &again, &doubles, tidy.len()), (0, tidy.to_vec()));
@@ -492,7 +497,7 @@ fn scenes_are_written_alike() {
         assert!(reason == read.reason, "an output one byte longer than the text is enough");
         if reason == 0 {
             let [_, primitives, used] = read.answer;
-            let whole = (&records[..10 * primitives], &reals[..used]);
+            let whole = (&records[..RECORD * primitives], &reals[..used]);
             assert_eq!(compare_writing(case.mode, &case.text, whole.0, whole.1, tidy.len()), (0, tidy.clone()));
             if tidy.len() <= scene::MOST_BYTES {
                 read_back(case.mode, &tidy, &records, &reals);
@@ -513,7 +518,7 @@ fn the_longest_tidy_text_is_written_alike() {
     let strings = 32_756;
     let text = format!("void mixfunc m {strings}{} 0 0", " s".repeat(strings)).into_bytes();
     assert_eq!(text.len(), scene::MOST_BYTES);
-    let (mut records, mut reals) = ([1; 10], [1.0; 1]);
+    let (mut records, mut reals) = ([1; RECORD], [1.0; 1]);
     assert_eq!(raw::read(0, &text, &mut records, &mut reals).0, 0);
     for (room, expected) in [(scene::MOST_BYTES, 23), (scene::MOST_BYTES + 1, 0), (scene::MOST_BYTES + 2, 0)] {
         assert_eq!(compare_writing(0, &text, &records, &reals, room).0, expected);
@@ -558,7 +563,7 @@ fn numerals_are_read_alike() {
     for _ in 0..float_count() {
         let word = numerals::any(&mut random);
         let text = format!("void mixfunc m 4 a b c d 0 1 {word}");
-        let (mut records, mut reals) = ([7; 10], [7.0]);
+        let (mut records, mut reals) = ([7; RECORD], [7.0]);
         let (reason, _) = raw::read(0, text.as_bytes(), &mut records, &mut reals);
         match scene::numeral(word.as_bytes()) {
             Ok(value) => {

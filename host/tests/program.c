@@ -24,8 +24,9 @@ static void print_scene(uint32_t mode, const char *scene) {
         const uint32_t *record = records + KRIBBELSTEEN_RECORD * (number - 1);
         kribbelsteen_name(text, len, records, ROOM * KRIBBELSTEEN_RECORD, answer[1], number, name);
         kribbelsteen_finish(records, ROOM * KRIBBELSTEEN_RECORD, answer[1], number, answer[1], finish);
-        printf("no=%zu mod=%u type=%u name=%.*s finish=%zu links=%zu\n", number, (unsigned)record[KRIBBELSTEEN_MODIFIER],
-               (unsigned)record[KRIBBELSTEEN_TYPE], (int)name[1], scene + name[0], finish[0], finish[1]);
+        printf("no=%zu line=%u mod=%u type=%u name=%.*s finish=%zu links=%zu\n", number, (unsigned)record[KRIBBELSTEEN_LINE],
+               (unsigned)record[KRIBBELSTEEN_MODIFIER], (unsigned)record[KRIBBELSTEEN_TYPE], (int)name[1], scene + name[0],
+               finish[0], finish[1]);
     }
     printf("name 9: %u\n", (unsigned)kribbelsteen_name(text, len, records, ROOM * KRIBBELSTEEN_RECORD, answer[1], 9, name));
     printf("name, 9 stated: %u\n", (unsigned)kribbelsteen_name(text, len, records, ROOM * KRIBBELSTEEN_RECORD, 9, 1, name));

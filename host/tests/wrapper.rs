@@ -32,6 +32,7 @@ fn a_scene_shows_its_primitives() {
     let panel = scene.primitive(5).expect("there are five");
     assert_eq!(panel.strings().map(|word| word.bytes).collect::<Vec<_>>(), [b"trim"]);
     assert_eq!(panel.reals(), [1.0, 2.0, 3.0]);
+    assert_eq!(scene.primitives().map(|p| p.line()).collect::<Vec<_>>(), [1, 2, 3, 4, 5]);
     assert!(scene.primitive(0).is_none() && scene.primitive(6).is_none());
 }
 
@@ -44,6 +45,14 @@ fn a_surface_hides_no_paint() {
     let links: Vec<_> = scene.primitives().map(|p| (p.modifier(), p.next_of_name())).collect();
     assert_eq!(links, [(None, None), (None, None), (Some(1), None)]);
     assert_eq!(scene.finish(3), Ok(Finish { material: Some(1), links: 1 }));
+}
+
+#[test]
+fn a_name_stands_on_a_line() {
+    let text = b"\n# a lamp\nvoid light\n\nlamp 0 0 3 1 1 1 void alias\r\nbulb lamp\n";
+    let (mut records, mut reals) = ([9; RECORD * 2], [9.0; 3]);
+    let scene = Scene::read(Mode::New, text, &mut records, &mut reals).expect("well-formed");
+    assert_eq!(scene.primitives().map(|p| p.line()).collect::<Vec<_>>(), [5, 6]);
 }
 
 #[test]

@@ -92,6 +92,10 @@ module _ {b : Bytes} {at : ℕ} {x after : Bytes} {place : ℕ} where
         end = e ∙ ap₂ (λ (w : Bytes) (k : ℕ). behind w k y) (s .text) (s .end) ∙ behind-behind b at x y;
       }
 
+  -- the same text in other words
+  pub shown-as : {y : Bytes} → Shown b at x after place → x ≡ y → Shown b at y after place
+  shown-as s e = record { text = s .text ∙ ap (put b at) e; end = s .end ∙ ap (behind b at) e }
+
 -- from the buffer's front, the place is how many bytes stand there
 pub count : {b new after : Bytes} {place : ℕ} → Shown b 0 new after place → place ≡ min (length new) (length b)
 count s = omega (arith, s .end)

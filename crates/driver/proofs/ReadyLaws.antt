@@ -26,6 +26,7 @@ use Rattle.lookup.specs.Lookup.{latestIn}
 use Rattle.parser.specs.Steps.{stepOf}
 use Rattle.scene.proofs.AcceptLaws.{going-sound}
 use Rattle.scene.proofs.PlaceLaws.{all-on, AllRead, all-read}
+use Rattle.scene.proofs.RiseLaws.{names-rise}
 use Rattle.scene.proofs.RoomLaws.{fit-forth, room-inv}
 use Rattle.scene.proofs.SwapLaws.{Linked}
 use Rattle.scene.proofs.SyntaxLaws.{AtPhase, Sound}
@@ -239,4 +240,4 @@ module _ (text : Bytes) (table : List ℕ) (reals : List Float) (room : Settings
     count-fits = omega (arith, N .count, count-room .1)
 
     pub entered : enteredIn text table (s′ .count) (s′ .draft) ≡ filled 0 (length table) (flat text (records (N .entry ∷ es)))
-    entered = enters text table (N .entry) es (s′ .draft) (I .stored) all-later (N .own) (s′ .count) (N .count) count-fits (omega (arith, N .count, count-room .0))
+    entered = enters text table (N .entry) es (s′ .draft) (I .stored) all-later (N .own) (names-rise room (done text table reals room s len W) g came .0) (I .short) (s′ .count) (N .count) count-fits (omega (arith, N .count, count-room .0))

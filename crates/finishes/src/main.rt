@@ -5,8 +5,8 @@ use input::Loaded;
 use reader::Answer;
 use scene::Mode;
 
-// Enough for any line: three numbers of 20 digits at most, a type of 10 bytes, two names of 64, and 44 more.
-const LINE: usize = 256;
+// Enough for any line: five numbers of 20 digits at most and two of 10, a type of 10 bytes, two names of 64, and 72 more.
+const LINE: usize = 384;
 
 // The line of a surface; nothing for other types. No walk needs more links than there are primitives.
 fn print_finish(text: &[u8], records: &[u32], count: usize, number: usize) -> bool {
@@ -17,20 +17,11 @@ fn print_finish(text: &[u8], records: &[u32], count: usize, number: usize) -> bo
     match finish::finish_of(records, count, number, count) {
         Finish::Reached(material, links) => {
             let mut line = [0u8; LINE];
-            let name = finish::name(text, records, count, number);
-            let material_name = finish::name(text, records, count, material);
-            let n = finish_listing::finish_line(
-                &mut line,
-                number,
-                kind,
-                name,
-                material,
-                material_name,
-                links,
-            );
+            let lent = table::first_records(records, count);
+            let n = finish_listing::finish_line(&mut line, text, lent, number, material, links);
             output::print(lexer::part(&line, 0, n))
         }
-        Finish::Refused(reason, _) => output::print_refusal(reason, 0),
+        Finish::Refused(reason, _) => output::print_refusal(reason, 0, 0),
     }
 }
 
@@ -51,7 +42,9 @@ fn show(mode: Mode, text: &[u8]) -> bool {
     let mut reals = [0.0f64; table::MOST_REALS];
     match reader::read(mode, text, &mut records, &mut reals) {
         Answer::Accepted(primitives, _) => print_finishes(text, &records, primitives),
-        Answer::Refused(reason, place) => output::print_refusal(reason, place),
+        Answer::Refused(reason, place) => {
+            output::print_refusal(reason, place, line_numbers::line_at(text, place))
+        }
     }
 }
 
@@ -60,7 +53,7 @@ fn show_text(mode: Mode, number: usize) -> bool {
     let mut text = [0u8; table::MOST_BYTES];
     match input::load(number, &mut text) {
         Loaded::Text(n) => input::print_heading(number) && show(mode, lexer::part(&text, 0, n)),
-        Loaded::TooLong => input::print_heading(number) && output::print_refusal(1, 0),
+        Loaded::TooLong => input::print_heading(number) && output::print_refusal(1, 0, 1),
         Loaded::Unreadable => input::print_unreadable(number),
     }
 }

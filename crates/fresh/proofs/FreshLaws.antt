@@ -2,7 +2,7 @@
 use mathlib.Core.Bool.{Bool, cond, _&&_}
 use mathlib.Core.List.{List}
 use mathlib.Core.Path.{_≡_, refl, ap, sym, _∙_}
-use Prim.Native.Nat.{ℕ, _/_, min}
+use Prim.Native.Nat.{ℕ, _*_, _/_, min}
 use native.Mathlib.Omega.{arith}
 use lib.Ieee.{Float}
 use lib.ListN.{length}
@@ -20,7 +20,7 @@ use Rattle.fresh.specs.Fresh.{tablesMatch, freshOf}
 use Rattle.fresh.specs.declared.Fresh.the-variants.{Same, Refused}
 
 -- fresh tables as long as the lent ones, but no longer than a reading can use
-module _ (mode : Mode) (table : List ℕ) (doubles : List Float) (text : Bytes) (xs : List ℕ) (ys : List Float) (f : length xs ≡ min (length table) 10240) (g : length ys ≡ min (length doubles) 4096) (xs′ : List ℕ) (ys′ : List Float) where
+module _ (mode : Mode) (table : List ℕ) (doubles : List Float) (text : Bytes) (xs : List ℕ) (ys : List Float) (f : length xs ≡ min (length table) (1024 * width)) (g : length ys ≡ min (length doubles) 4096) (xs′ : List ℕ) (ys′ : List Float) where
   abbrev x : Reading
   x = readInto mode text xs ys
 

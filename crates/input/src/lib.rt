@@ -146,7 +146,7 @@ pub fn say_unreadable(number: usize) {
 }
 
 // A text's refusal on standard error, with a file's name in it.
-pub fn say_refusal(number: usize, reason: u32, place: usize) {
+pub fn say_refusal(number: usize, reason: u32, place: usize, line: usize) {
     write_name(STDERR_FILENO, number, b" ");
-    output::say_refusal(reason, place);
+    output::say_refusal(reason, place, line);
 }

@@ -41,7 +41,7 @@ fn hit(text: &[u8], records: &[u32], n: usize, name: &[u8]) -> usize
 }
 
 // How many of the first n have that name.
-fn times(text: &[u8], records: &[u32], n: usize, name: &[u8]) -> usize
+pub fn times(text: &[u8], records: &[u32], n: usize, name: &[u8]) -> usize
     ensures { λ r. ⌜ r ≡ times (now (name .entry)) (rowsIn (now (text .entry)) (now (records .entry)) [] n) ⌝ }
 {
     let mut seen = 0;

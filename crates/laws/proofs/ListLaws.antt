@@ -1,9 +1,10 @@
 -- Parts of a list.
-use mathlib.Core.List.{List, _++_}
+use mathlib.Core.List.{List, [], _∷_, _++_}
 use mathlib.Core.Path.{_≡_, sym, ap, _∙_}
 use Prim.Native.Nat.{ℕ, _+_, _-_, _≤_, _<_, min}
+use native.Mathlib.Nat.{zero-add, suc-add}
 use native.Mathlib.Omega.{arith}
-use lib.ListN.{length, length-append, take, drop, getD, drop-of-length-le, length-drop}
+use lib.ListN.{length, length-append, take, drop, getD, set, drop-of-length-le, length-drop}
 use lib.Seq.{getD-drop, getD-take, length-take-le, take-all}
 use Rattle.laws.proofs.NatLaws.{cut}
 use Rattle.laws.specs.Bytes.{Bytes, part}
@@ -37,3 +38,8 @@ front-within xs ys e = omega (arith, length-append xs ys)
 -- what the code's `&xs[n..]` holds
 pub rest-of : {A : Type 0} (n : ℕ) (xs : List A) → take (length xs - n) (drop n xs) ≡ drop n xs
 rest-of n xs = take-all (length xs - n) (drop n xs) (omega (arith, length-drop n xs))
+
+-- an entry behind a list is set in what stands there
+pub set-append-add : {A : Type 0} (xs ys : List A) (i : ℕ) (v : A) → set (xs ++ ys) (length xs + i) v ≡ xs ++ set ys i v
+set-append-add [] ys i v = ap (λ (k : ℕ). set ys k v) (zero-add i)
+set-append-add {A} (x ∷ xs) ys i v = ap (λ (k : ℕ). set (x ∷ (xs ++ ys)) k v) (suc-add (length xs) i) ∙ ap (λ (zs : List A). x ∷ zs) (set-append-add xs ys i v)

@@ -7,23 +7,28 @@ use native.Mathlib.Nat.{sub-zero, zero-sub, suc-sub-suc}
 use native.Mathlib.Omega.{arith}
 use borrow.Author.Tests.{lt-leb}
 use lib.Dec.{leb}
-use lib.ListN.{length, length-append, length-set, length-replicate, replicate, take, drop}
+use lib.ListN.{length, length-append, length-set, length-replicate, length-take, replicate, take, drop}
 use lib.Seq.{sets, sets-eq, set-append-left, take-append-seam, drop-append-add}
 use Rattle.laws.proofs.BoolLaws.{cond-elim}
 use Rattle.laws.specs.Bytes.{Bytes, part}
+use Rattle.line_numbers.proofs.LineLaws.{line-goes-on}
+use Rattle.line_numbers.specs.Lines.{lineFrom}
 use Rattle.lookup.proofs.LookupLaws.{search-latest}
-use Rattle.linker.specs.Entered.{earlierIn, enteredIn, toldIn, recordFrom}
+use Rattle.linker.specs.Seen.{clipped}
+use Rattle.linker.specs.Entered.{earlierIn, enteredIn, recordFrom, rowOf, toldIn}
 use Rattle.lookup.specs.Lookup.{latestIn}
 use Rattle.statement.specs.declared.Draft.{Draft}
 use Rattle.scene.proofs.FlatLaws.{flat-next, link, flat-snoc, flat-length}
 use Rattle.scene.proofs.GivesLaws.{gives-by-type}
 use Rattle.scene.proofs.GrowLaws.{records-grow, toldOf}
+use Rattle.scene.proofs.LineLaws.{newlines-most}
 use Rattle.scene.proofs.PlaceLaws.{AllRead}
+use Rattle.scene.proofs.RiseLaws.{lastName}
 use Rattle.scene.proofs.SwapLaws.{latest-le}
 use Rattle.scene.proofs.TellsLaws.{name-at, records-length, statements-length}
 use Rattle.scene.specs.Links.{gives, latest, ownBody, typeIn}
 use Rattle.scene.specs.Reading.{newline, Entry, statements}
-use Rattle.scene.specs.Record.{width, flat, recordOf, Record, filled, fields, records, nextField}
+use Rattle.scene.specs.Record.{lineAt, width, flat, recordOf, Record, filled, fields, records, nextField}
 use Rattle.scene.specs.Types.{isSurface}
 
 drop-zeros : (k n : ℕ) → drop {A = ℕ} k (replicate n 0) ≡ replicate (n - k) 0
@@ -80,9 +85,22 @@ module _ (text : Bytes) (table : List ℕ) (e : Entry) (es : List Entry) (d : Dr
   told-most : toldOf e es ≤ length (statements es)
   told-most = cond-elim (λ m. m ≤ length (statements es)) (gives (e .statement)) (latest-le (e .statement .name) (statements es)) (omega arith)
 
-  pub enters : (n : ℕ) → n ≡ length (statements es) → n ≤ 1024 → n * width + width ≤ length table → enteredIn text table n d ≡ filled 0 (length table) (flat text (records (e ∷ es)))
+  -- what is stored is the record of the statement
+  row-fields : rowOf d (lineAt text (e .places .name)) ≡ fields text (recordOf [] e es)
+  unfolding recordOf
+  row-fields = ap (λ (k : ℕ). rowOf d (lineAt text k)) (sym (ap (λ (z : Record). z .name) own)) ∙ ap (fields text) own
+
+  -- the line of the name, counted on from the name before, is that of its place
+  line-told : lastName es ≤ e .places .name → length text ≤ 65536 → (n : ℕ) → n ≡ length es → clipped (lineFrom text table n (d .name)) ≡ lineAt text (e .places .name)
+  unfolding recordOf
+  line-told rises short n q =
+      let place = e .places .name in
+      let few : lineAt text place ≤ length text + 1 = omega (arith, newlines-most (take place text), length-take place text) in
+      ap clipped ((λ i. lineFrom text (w i) (q i) (own i .name)) ∙ line-goes-on text es (length table) place rises) ∙ omega (arith, few)
+
+  pub enters : lastName es ≤ e .places .name → length text ≤ 65536 → (n : ℕ) → n ≡ length (statements es) → n ≤ 1024 → n * width + width ≤ length table → enteredIn text table n d ≡ filled 0 (length table) (flat text (records (e ∷ es)))
   unfolding enteredIn
-  enters n q few f =
+  enters rises short n q few f =
       let rows = length table / width in
       let small : min (n + 1) 4294967295 ≡ n + 1 = omega arith in
       let room : leb rows n ≡ false = lt-leb rows n (omega arith) in
@@ -93,8 +111,10 @@ module _ (text : Bytes) (table : List ℕ) (e : Entry) (es : List Entry) (d : Dr
       let L : List Record = link R m (suc (length es)) in
       let c : n + 1 ≡ suc (length es) = omega (arith, statements-length es) in
       let j : length (flat text L) ≡ length (flat text R) = omega (arith, flat-length text L, flat-length text R, link-length R m (suc (length es))) in
-      (λ i. cond (room i) table (sets (toldIn table (earlierIn text table n d) (small i)) (n * width) (fields text (recordFrom d)))) ∙
-      (λ i. sets (toldIn (w i) (tells-of n q (omega arith) i) (c i)) (n * width) (fields text (own i))) ∙
+      let line = line-told rises short n (q ∙ statements-length es) in
+      (λ i. cond (room i) table (sets (toldIn table (earlierIn text table n d) (small i)) (n * width) (rowOf d (line i)))) ∙
+      (λ i. sets (toldIn (w i) (tells-of n q (omega arith) i) (c i)) (n * width) (rowOf d (lineAt text (e .places .name)))) ∙
+      ap (λ (r : List ℕ). sets (toldIn (filled 0 (length table) (flat text R)) m (suc (length es))) (n * width) r) row-fields ∙
       ap (λ (t : List ℕ). sets t (n * width) (fields text (recordOf [] e es))) (told-link text R (replicate (length table - length (flat text R)) 0) m (suc (length es)) le ∙ ap {B = List ℕ} (λ (x : ℕ). flat text L ++ replicate (length table - x) 0) (sym j)) ∙
       put-record text L (recordOf [] e es) n (length table) (omega (arith, link-length R m (suc (length es)), k, statements-length es)) f ∙
       ap (λ (t : List Record). filled 0 (length table) (flat text t)) (sym (records-grow e es))

@@ -11,12 +11,13 @@ use lib.ListN.{length, getD, set, take, drop}
 use lib.Seq.{paste, paste-suc, sets, sets-eq, take-length}
 use Rattle.laws.proofs.BoolLaws.{cond-elim}
 use Rattle.laws.specs.Bytes.{Bytes, part}
-use Rattle.linker.specs.Entered.{earlierIn, enteredIn, recordFrom, rowOf, toldIn}
+use Rattle.line_numbers.specs.Lines.{lineFrom}
+use Rattle.linker.specs.Entered.{earlierIn, enteredIn, rowOf, toldIn}
 use Rattle.lookup.specs.Lookup.{hasName, latestIn}
 use Rattle.linker.specs.Seen.{back, clipped, draftIn, isLookedUp, lookedFor}
 use Rattle.statement.specs.declared.Phase.{Phase}
 use Rattle.scene.specs.HouseRules.{zeroReal}
-use Rattle.scene.specs.Record.{fieldIn, fields, recordIn, width, nextField}
+use Rattle.scene.specs.Record.{fieldIn, recordIn, width, nextField}
 use Rattle.scene.specs.Types.{isSurface}
 use Rattle.statement.specs.declared.Draft.{Draft}
 
@@ -76,10 +77,6 @@ module _ (T row : List ℕ) (at : ℕ) (fits : at + length row ≤ length T) whe
 
 -- ---- a record entered
 
--- the draft's record has the numbers that are stored
-row-fields : (text : Bytes) (d : Draft) → fields text (recordFrom d) ≡ rowOf d
-row-fields text d = refl
-
 module _ (text : Bytes) (T : List ℕ) (n : ℕ) (d : Draft) where
   abbrev rows : ℕ
   rows = length T / width
@@ -101,6 +98,6 @@ module _ (text : Bytes) (T : List ℕ) (n : ℕ) (d : Draft) where
   unfolding earlierIn
   earlier-most = cond-elim (λ m. m ≤ min n rows) (isSurface (d .kind)) (omega arith) (latest-in-le text T (part text (d .name) (d .size)) (min n rows))
 
-  pub entered-one : n < rows → {told number : ℕ} {T₁ T₂ : List ℕ} → told ≡ earlierIn text T n d → number ≡ clipped (n + 1) → T₁ ≡ toldIn T told number → T₂ ≡ sets T₁ (n * width) (rowOf d) → T₂ ≡ enteredIn text T n d
+  pub entered-one : n < rows → {line told number : ℕ} {T₁ T₂ : List ℕ} → line ≡ clipped (lineFrom text T n (d .name)) → told ≡ earlierIn text T n d → number ≡ clipped (n + 1) → T₁ ≡ toldIn T told number → T₂ ≡ sets T₁ (n * width) (rowOf d line) → T₂ ≡ enteredIn text T n d
   unfolding enteredIn
-  entered-one h e m t s = rw (lt-leb rows n h) (s ∙ (λ i. sets ((t ∙ (λ j. toldIn T (e j) (m j))) i) (n * width) (sym (row-fields text d) i)))
+  entered-one h l e m t s = rw (lt-leb rows n h) (s ∙ (λ i. sets ((t ∙ (λ j. toldIn T (e j) (m j))) i) (n * width) (rowOf d (l i))))

@@ -108,10 +108,10 @@ pub fn look(
     }
 }
 
-// Stores a draft as row `n`, counted from 0, with no next of its name.
-fn put_row(records: &mut [u32], n: usize, d: Draft)
+// Stores a draft as row `n`, counted from 0, with no next of its name, and the line of its name.
+fn put_row(records: &mut [u32], n: usize, d: Draft, line: u32)
     requires { ⌜ n * width + width ≤ length (now records) ⌝ }
-    ensures { λ _. ⌜ now (records .exit) ≡ sets (now (records .entry)) (n * width) (rowOf d) ⌝ }
+    ensures { λ _. ⌜ now (records .exit) ≡ sets (now (records .entry)) (n * width) (rowOf d line) ⌝ }
 {
     let at = n * WIDTH;
     let row = [
@@ -125,6 +125,7 @@ fn put_row(records: &mut [u32], n: usize, d: Draft)
         d.real,
         d.reals,
         0,
+        line,
     ];
     let mut i = 0;
     while i < WIDTH {
@@ -161,8 +162,9 @@ pub fn enter(text: &[u8], records: &mut [u32], count: usize, d: Draft)
     if records.len() / WIDTH <= count {
         return;
     }
+    let line = narrow(line_numbers::line_of(text, records, count, wide(d.name)));
     let told = earlier(text, records, count, d);
     let number = narrow(count + 1);
     tell_next(records, told, number);
-    put_row(records, count, d);
+    put_row(records, count, d, line);
 }

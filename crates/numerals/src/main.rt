@@ -46,7 +46,7 @@ fn main() {
     match input::load_standard(&mut text) {
         Loaded::Text(n) => print_all(lexer::part(&text, 0, n)),
         Loaded::TooLong => {
-            output::print_refusal(1, 0);
+            output::print_refusal(1, 0, 0);
         }
         Loaded::Unreadable => {
             output::print(b"unreadable\n");

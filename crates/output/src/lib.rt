@@ -20,20 +20,29 @@ pub fn print(text: &[u8]) -> bool {
     noticed(io::write_all(STDOUT_FILENO, text))
 }
 
-fn write_refusal(fd: i32, reason: u32, place: usize) -> bool {
+// Line 0 stands for a refusal that has no place in a text.
+fn write_line(fd: i32, line: usize) -> bool {
+    if line == 0 {
+        return true;
+    }
+    io::write_all(fd, b" line=") && io::print_decimal(fd, line as u64)
+}
+
+fn write_refusal(fd: i32, reason: u32, place: usize, line: usize) -> bool {
     io::write_all(fd, b"refused=")
         && io::print_decimal(fd, reason as u64)
         && io::write_all(fd, b" place=")
         && io::print_decimal(fd, place as u64)
+        && write_line(fd, line)
         && io::write_all(fd, b"\n")
 }
 
-// The line of a text that is refused.
-pub fn print_refusal(reason: u32, place: usize) -> bool {
-    noticed(write_refusal(STDOUT_FILENO, reason, place))
+// The line of a text that is refused, with the line of its place.
+pub fn print_refusal(reason: u32, place: usize, line: usize) -> bool {
+    noticed(write_refusal(STDOUT_FILENO, reason, place, line))
 }
 
 // The same line on standard error.
-pub fn say_refusal(reason: u32, place: usize) {
-    write_refusal(STDERR_FILENO, reason, place);
+pub fn say_refusal(reason: u32, place: usize, line: usize) {
+    write_refusal(STDERR_FILENO, reason, place, line);
 }

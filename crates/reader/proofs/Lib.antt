@@ -3,3 +3,4 @@ pub mod EndLaws
 pub mod ExchangeLaws
 pub mod LinkLaws
 pub mod ArchiveLaws
+pub mod LineLaws

@@ -3,3 +3,4 @@ pub mod Answer
 pub mod Exchange
 pub mod Links
 pub mod Archive
+pub mod Lines

@@ -1,4 +1,4 @@
--- The table as ten numbers to a record: one number of it, a next that is set, and a record read from it.
+-- The table record by record: one number of it, a next that is set, and a record read from it.
 use mathlib.Core.List.{List, [], _∷_, _++_}
 use mathlib.Core.Logic.{_⊎_, inl, inr}
 use mathlib.Core.Path.{sym, _≡_, refl, ap, _∙_}
@@ -7,10 +7,11 @@ use native.Mathlib.Omega.{arith}
 use lib.Dec.{lit<}
 use lib.ListN.{length, set, getD, List·getD-append, List·getD-eq-default}
 use lib.Seq.{getD-append-add}
+use Rattle.laws.proofs.ListLaws.{set-append-add}
 use Rattle.laws.proofs.NatLaws.{le-or-lt}
 use Rattle.laws.proofs.TableLaws.{padded}
 use Rattle.laws.specs.Bytes.{Bytes}
-use Rattle.scene.specs.Record.{recordIn, fieldIn, nth, filled, Record, fields, nothing, width, flat, nextField}
+use Rattle.scene.specs.Record.{recordIn, fieldIn, nth, filled, Record, fields, nothing, width, flat, nextField, lineAt, lineField, lineIn}
 
 -- a record with its next set
 abbrev pub withNext : Record → ℕ → Record
@@ -30,16 +31,16 @@ flat-length text (r ∷ rs) = let h = flat-length text rs in omega arith
 flat-at : (text : Bytes) (rs : List Record) (k j : ℕ) → k < length rs → j < width → getD (flat text rs) (k * width + j) 0 ≡ getD (fields text (getD rs k nothing)) j 0
 unfolding flat
 flat-at text [] k j h l = absurd (omega arith)
-flat-at text (r ∷ rs) zero j h l = let e : 0 * 10 + j ≡ j = omega arith in ap (λ n. getD (fields text r ++ flat text rs) n 0) e ∙ List·getD-append (fields text r) (flat text rs) 0 j l
-flat-at text (r ∷ rs) (suc k) j h l = let e : suc k * 10 + j ≡ 10 + (k * 10 + j) = omega arith in ap (λ n. getD (fields text r ++ flat text rs) n 0) e ∙ getD-append-add (fields text r) (flat text rs) (k * 10 + j) 0 ∙ flat-at text rs k j (omega arith) l
+flat-at text (r ∷ rs) zero j h l = let e : 0 * width + j ≡ j = omega arith in ap (λ n. getD (fields text r ++ flat text rs) n 0) e ∙ List·getD-append (fields text r) (flat text rs) 0 j l
+flat-at text (r ∷ rs) (suc k) j h l = let e : suc k * width + j ≡ width + (k * width + j) = omega arith in ap (λ n. getD (fields text r ++ flat text rs) n 0) e ∙ getD-append-add (fields text r) (flat text rs) (k * width + j) 0 ∙ flat-at text rs k j (omega arith) l
 
 pub flat-next : (text : Bytes) (rs : List Record) (k v : ℕ) → k < length rs → set (flat text rs) (k * width + nextField) v ≡ flat text (link rs (suc k) v)
 unfolding flat
 flat-next text [] k v h = absurd (omega arith)
 flat-next text (r ∷ rs) zero v h = refl
 flat-next text (r ∷ rs) (suc k) v h =
-    let e : suc k * 10 + 9 ≡ suc (suc (suc (suc (suc (suc (suc (suc (suc (suc (k * 10 + 9)))))))))) = omega arith in
-    ap (λ n. set (fields text r ++ flat text rs) n v) e ∙ ap {B = List ℕ} (λ (z : List ℕ). fields text r ++ z) (flat-next text rs k v (omega arith))
+    let e : suc k * width + nextField ≡ width + (k * width + nextField) = omega arith in
+    ap (λ n. set (fields text r ++ flat text rs) n v) e ∙ set-append-add (fields text r) (flat text rs) (k * width + nextField) v ∙ ap {B = List ℕ} (λ (z : List ℕ). fields text r ++ z) (flat-next text rs k v (omega arith))
 
 pub flat-snoc : (text : Bytes) (rs : List Record) (r : Record) → flat text (rs ++ r ∷ []) ≡ flat text rs ++ fields text r
 unfolding flat
@@ -66,3 +67,8 @@ record-in text rs m (suc n) = λ i. record { type = cell 0 (lit< tt) refl i; mod
   where
     cell : (j : ℕ) → j < width → getD (fields text nothing) j 0 ≡ 0 → getD (filled 0 m (flat text rs)) (n * width + j) 0 ≡ getD (fields text (getD rs n nothing)) j 0
     cell j l z = padded 0 (flat text rs) (m - length (flat text rs)) (n * width + j) ∙ flat-any text rs n j l z
+
+-- and so is the line of each record
+pub line-in : (text : Bytes) (rs : List Record) (m n : ℕ) → n < length rs → lineIn (filled 0 m (flat text rs)) (suc n) ≡ lineAt text (nth rs (suc n) .name)
+unfolding fieldIn nth
+line-in text rs m n h = padded 0 (flat text rs) (m - length (flat text rs)) (n * width + lineField) ∙ flat-at text rs n lineField h (lit< tt)

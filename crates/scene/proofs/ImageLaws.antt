@@ -8,13 +8,13 @@ use lib.ListN.{length, getD, replicate, length-append, length-replicate, replica
 use Rattle.laws.proofs.TableLaws.{any-default, padded}
 use Rattle.laws.specs.Bytes.{Bytes, part}
 use Rattle.scene.proofs.AcceptLaws.{accept-forth}
-use Rattle.scene.proofs.FlatLaws.{flat-length, record-in}
+use Rattle.scene.proofs.FlatLaws.{flat-length, line-in, record-in}
 use Rattle.scene.proofs.PlaceLaws.{AllRead}
 use Rattle.scene.proofs.RoomLaws.{fit-forth}
 use Rattle.scene.proofs.TellsLaws.{nth-at, name-at, read-tail, reals-length, records-length, statements-length}
 use Rattle.scene.specs.HouseRules.{zeroReal}
 use Rattle.scene.specs.Reading.{Entry, Reading, accepted, newline, read, refused, statements}
-use Rattle.scene.specs.Record.{Record, entries, filled, flat, nameIn, realImage, realTable, reals, recordImage, recordIn, recordOf, records, recordsFrom, settingsFor}
+use Rattle.scene.specs.Record.{Record, entries, filled, flat, lineAt, lineIn, nameIn, realImage, realTable, reals, recordImage, recordIn, recordOf, records, recordsFrom, settingsFor}
 use Rattle.scene.specs.declared.Mode.{Mode}
 
 -- ---- a table filled up behind its used entries
@@ -77,6 +77,10 @@ zero-reals k n p = ap (λ (j : ℕ). replicate j zeroReal) (sym (sub-zero k))
 module _ (text : Bytes) (es : List Entry) (n : ℕ) (l : List Entry) (e : Entry) (d : List Entry) (q : es ≡ l ++ e ∷ d) where
   pub record-is : recordIn (filled 0 n (flat text (records es))) (suc (length d)) ≡ recordOf l e d
   record-is = record-in text (records es) n (suc (length d)) ∙ nth-at es l e d (suc (length d)) q refl
+
+  pub line-is : lineIn (filled 0 n (flat text (records es))) (suc (length d)) ≡ lineAt text (e .places .name)
+  unfolding recordOf records
+  line-is = line-in text (records es) n (length d) (omega (arith, records-length [] es, ap length q, length-append l (e ∷ d))) ∙ ap (λ (r : Record). lineAt text (r .name)) (nth-at es l e d (suc (length d)) q refl)
 
   pub name-is : AllRead (text ++ newline) es → nameIn text (filled 0 n (flat text (records es))) (suc (length d)) ≡ e .statement .name
   unfolding nameIn recordOf

@@ -23,3 +23,5 @@ pub mod LowestLaws
 pub mod PropertyLaws
 pub mod MeaningLaws
 pub mod ModeLaws
+pub mod RiseLaws
+pub mod LineLaws

@@ -1,10 +1,10 @@
--- The linked table: a record of ten numbers for each statement, the reals, and both as they stand in the lent tables.
+-- The linked table: a record of eleven numbers for each statement, the reals, and both as they stand in the lent tables.
 use mathlib.Core.Bool.{cond}
 use mathlib.Core.List.{List, [], _∷_, _++_}
 use Prim.Native.Nat.{ℕ, zero, suc, _+_, _-_, _*_, _/_, min}
 use lib.Dec.{eqb, ltb}
 use lib.Ieee.{Float}
-use lib.ListN.{length, getD, replicate}
+use lib.ListN.{length, getD, replicate, take}
 use Rattle.laws.specs.Bytes.{Bytes, part}
 use Rattle.scene.specs.HouseRules.{zeroReal}
 use Rattle.scene.specs.Links.{gives, firstLater, modifierLink, targetLink, source, ownBody, typeIn, stringsIn, realsIn, realsUsed}
@@ -13,9 +13,8 @@ use Rattle.scene.specs.declared.Mode.{Mode}
 use Rattle.scene.specs.declared.Settings.{Settings}
 use Rattle.scene.specs.Statement.{Statement}
 
--- "Record: ten 32-bit numbers. Type; modifier link; alias target (0 if none); name's place; name's length; place of the first
--- string (0 if none); string count; index of the first real, from 0 (0 also if none); real count; number of the next primitive
--- of the same name (0 if none)."
+-- "Type; modifier link; alias target (0 if none); name's place; name's length; place of the first string (0 if none); string
+-- count; index of the first real, from 0 (0 also if none); real count; number of the next primitive of the same name (0 if none)."
 pub record Record : Type 0 where
   pub type : ℕ
   pub modifier : ℕ
@@ -28,17 +27,40 @@ pub record Record : Type 0 where
   pub reals : ℕ
   pub next : ℕ
 
--- a record's numbers as they stand in the table. The text is not used yet: a number computed from it will stand behind the ten
+-- "A line ends with byte 10"
+unfoldable pub newlines : Bytes → ℕ
+newlines [] = 0
+newlines (b ∷ t) = cond (eqb b 10) (suc (newlines t)) (newlines t)
+
+-- the line of a place, "from 1": one more than the bytes 10 before it
+abbrev pub lineAt : Bytes → ℕ → ℕ
+lineAt text place = suc (newlines (take place text))
+
+-- a record's numbers as they stand in the table. "Records grow to eleven numbers, the last being the line on which the name stands"
 abbrev pub fields : Bytes → Record → List ℕ
 fields text r =
-    r .type ∷ r .modifier ∷ r .target ∷ r .name ∷ r .nameLength ∷ r .string ∷ r .strings ∷ r .real ∷ r .reals ∷ r .next ∷ []
+    r .type
+    ∷ r .modifier
+    ∷ r .target
+    ∷ r .name
+    ∷ r .nameLength
+    ∷ r .string
+    ∷ r .strings
+    ∷ r .real
+    ∷ r .reals
+    ∷ r .next
+    ∷ lineAt text (r .name)
+    ∷ []
 
--- how many numbers a record has, and which of them, from 0, is the next of its name
+-- how many numbers a record has, and which of them, from 0, are the next of its name and the line
 abbrev pub width : ℕ
-width = 10
+width = 11
 
 abbrev pub nextField : ℕ
 nextField = 9
+
+abbrev pub lineField : ℕ
+lineField = 10
 
 -- ---- a statement's record
 
@@ -128,13 +150,17 @@ recordIn table n =
       next = field 9;
     }
 
+-- its line
+abbrev pub lineIn : List ℕ → (n : ℕ) → ℕ
+lineIn table n = fieldIn table n lineField
+
 -- its name: what the text has of the part that the record names
 unfoldable pub nameIn : Bytes → List ℕ → (n : ℕ) → Bytes
 nameIn text table n = part text (recordIn table n .name) (recordIn table n .nameLength)
 
 -- ---- the lent tables
 
--- "Record room is the lesser of 1,024 and the lent length over 10, rounded down; real room the lesser of 4,096 and the lent
+-- "record room becomes the lesser of 1,024 and the lent length over 11, rounded down"; "real room the lesser of 4,096 and the lent
 -- length"; "Every call that reads, later ones too, takes either reading"
 abbrev pub settingsFor : Mode → (lentRecords lentReals : ℕ) → Settings
 settingsFor mode n m = record { mode = mode; records = min 1024 (n / width); reals = min 4096 m }

@@ -1,4 +1,4 @@
--- What text and table together say of a statement: places and the index of the first real are left out.
+-- What text and table together say of a statement: places, the line and the index of the first real are left out.
 use mathlib.Core.List.{List, [], _∷_}
 use Prim.Native.Nat.{ℕ, zero, suc, _+_}
 use lib.Ieee.{Float}

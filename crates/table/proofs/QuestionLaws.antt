@@ -65,18 +65,18 @@ module _ (table : List ℕ) (count n : ℕ) where
   unfolding numberRefusal
   count-over h = rw (lt-leb count 1024 h)
 
-  pub count-beyond : count ≤ 1024 → length table < count * 10 → 18 ≡ numberRefusal table count n
+  pub count-beyond : count ≤ 1024 → length table < count * width → 18 ≡ numberRefusal table count n
   unfolding numberRefusal
-  count-beyond h l = rw (le-leb count 1024 h, lt-leb (count * 10) (length table) l)
+  count-beyond h l = rw (le-leb count 1024 h, lt-leb (count * width) (length table) l)
 
-  pub number-0 : count ≤ 1024 → count * 10 ≤ length table → n ≡ 0 → 17 ≡ numberRefusal table count n
+  pub number-0 : count ≤ 1024 → count * width ≤ length table → n ≡ 0 → 17 ≡ numberRefusal table count n
   unfolding numberRefusal
-  number-0 h l e = rw (le-leb count 1024 h, le-leb (count * 10) (length table) l, e)
+  number-0 h l e = rw (le-leb count 1024 h, le-leb (count * width) (length table) l, e)
 
-  pub number-over : count ≤ 1024 → count * 10 ≤ length table → 0 < n → count < n → 17 ≡ numberRefusal table count n
+  pub number-over : count ≤ 1024 → count * width ≤ length table → 0 < n → count < n → 17 ≡ numberRefusal table count n
   unfolding numberRefusal
-  number-over h l z o = rw (le-leb count 1024 h, le-leb (count * 10) (length table) l, le-leb 1 n z, lt-leb n count o)
+  number-over h l z o = rw (le-leb count 1024 h, le-leb (count * width) (length table) l, le-leb 1 n z, lt-leb n count o)
 
-  pub number-good : count ≤ 1024 → count * 10 ≤ length table → 0 < n → n ≤ count → 0 ≡ numberRefusal table count n
+  pub number-good : count ≤ 1024 → count * width ≤ length table → 0 < n → n ≤ count → 0 ≡ numberRefusal table count n
   unfolding numberRefusal
-  number-good h l z o = rw (le-leb count 1024 h, le-leb (count * 10) (length table) l, le-leb 1 n z, le-leb n count o)
+  number-good h l z o = rw (le-leb count 1024 h, le-leb (count * width) (length table) l, le-leb 1 n z, le-leb n count o)

@@ -9,10 +9,10 @@ use scene::Mode;
 use scene::Settings;
 
 // How many numbers a record has.
-pub const WIDTH: usize = 10;
+pub const WIDTH: usize = 11;
 
 // A record's numbers, in their order: type, modifier link, alias target, name's place and length, first string's place and string
-// count, first real's index and real count, the next of the same name.
+// count, first real's index and real count, the next of the same name, the line of the name.
 pub const KIND: usize = 0;
 
 pub const MODIFIER: usize = 1;
@@ -32,6 +32,8 @@ pub const REAL: usize = 7;
 pub const REALS: usize = 8;
 
 pub const NEXT: usize = 9;
+
+pub const LINE: usize = 10;
 
 // The longest text that is read; the most records and reals that a reading stores, and how many numbers that many records have.
 pub const MOST_BYTES: usize = 65536;

@@ -5,16 +5,16 @@ use scene::Mode;
 use writer::Answer as Tidied;
 
 // A refusal is said on standard error too, as whatever reads standard output expects a scene there.
-fn refuse(number: usize, reason: u32, place: usize) -> bool {
-    input::say_refusal(number, reason, place);
-    output::print_refusal(reason, place)
+fn refuse(number: usize, reason: u32, place: usize, line: usize) -> bool {
+    input::say_refusal(number, reason, place, line);
+    output::print_refusal(reason, place, line)
 }
 
 fn print_tidy(mode: Mode, number: usize, text: &[u8], records: &[u32], reals: &[f64]) -> bool {
     let mut out = [0u8; table::MOST_BYTES];
     match writer::write(mode, text, records, reals, &mut out) {
         Tidied::Written(n) => output::print(lexer::part(&out, 0, n)),
-        Tidied::Refused(reason, place) => refuse(number, reason, place),
+        Tidied::Refused(reason, place) => refuse(number, reason, place, 0),
     }
 }
 
@@ -24,7 +24,9 @@ fn tidy(mode: Mode, number: usize, text: &[u8]) -> bool {
     let mut reals = [0.0f64; table::MOST_REALS];
     match reader::read(mode, text, &mut records, &mut reals) {
         Answer::Accepted(_, _) => print_tidy(mode, number, text, &records, &reals),
-        Answer::Refused(reason, place) => refuse(number, reason, place),
+        Answer::Refused(reason, place) => {
+            refuse(number, reason, place, line_numbers::line_at(text, place))
+        }
     }
 }
 
@@ -40,7 +42,7 @@ fn tidy_text(mode: Mode, number: usize) -> bool {
     match input::load(number, &mut text) {
         Loaded::Text(n) => input::print_heading(number)
             && tidy(mode, number, lexer::part(&text, 0, n)),
-        Loaded::TooLong => input::print_heading(number) && refuse(number, 1, 0),
+        Loaded::TooLong => input::print_heading(number) && refuse(number, 1, 0, 1),
         Loaded::Unreadable => pass_over(number),
     }
 }

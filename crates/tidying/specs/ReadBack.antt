@@ -9,7 +9,8 @@ use Rattle.scene.specs.Record.{Record, records, realTable}
 use Rattle.scene.specs.declared.Settings.{Settings}
 use Rattle.tidying.specs.Tidy.{tidy}
 
--- "the same table but for places": of a record's ten numbers, the name's place and the place of the first string are places
+-- "the same table but for places": of a record's numbers, the name's place and the place of the first string are places. The line,
+-- which is left out "along with places", is made of the text when the table is (`fields`), and no part of a record here
 abbrev pub withoutPlaces : Record → Record
 withoutPlaces r = record {
   type = r .type;

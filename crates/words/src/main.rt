@@ -31,7 +31,7 @@ fn main() {
     match input::load_standard(&mut text) {
         Loaded::Text(n) => print_words(lexer::part(&text, 0, n)),
         Loaded::TooLong => {
-            output::print_refusal(1, 0);
+            output::print_refusal(1, 0, 0);
         }
         Loaded::Unreadable => {
             output::print(b"unreadable\n");

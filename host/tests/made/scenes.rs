@@ -2,6 +2,7 @@
 
 use super::numerals;
 use crate::reference::random::Random;
+use crate::reference::scene::{MOST_REALS, MOST_RECORDS, RECORD};
 
 /// A mode by its number, a text, and how many entries are lent.
 pub struct Case {
@@ -296,8 +297,7 @@ fn lent(random: &mut Random, most: usize, needed: usize) -> usize {
     }
 }
 
-const MOST_RECORD_NUMBERS: usize = 10 * 1024;
-const MOST_REALS: usize = 4096;
+const MOST_RECORD_NUMBERS: usize = RECORD * MOST_RECORDS;
 
 /// Up to some hundred statements, and what they give.
 fn statements(random: &mut Random, mode: u32) -> (Vec<Words>, Given) {
@@ -320,7 +320,7 @@ fn laid_out(random: &mut Random, mode: u32, statements: &[Words], damages: usize
     Case {
         mode,
         text,
-        records: lent(random, MOST_RECORD_NUMBERS, 10 * size),
+        records: lent(random, MOST_RECORD_NUMBERS, RECORD * size),
         reals: lent(random, MOST_REALS, words.saturating_sub(6 * size)),
     }
 }
@@ -369,7 +369,19 @@ fn at_a_limit(random: &mut Random, mode: u32) -> Case {
     if random.percent(10) {
         damage(random, &mut text);
     }
-    let records = *random.pick(&[10_240, 10_240, 10_240, 10_239, 10_241, 10_249, 10_250, 10_260, 12_000, 10_230]);
+    let most = MOST_RECORD_NUMBERS;
+    let records = *random.pick(&[
+        most,
+        most,
+        most,
+        most - 1,
+        most + 1,
+        most + RECORD - 1,
+        most + RECORD,
+        most + 2 * RECORD,
+        most + 1_760,
+        most - RECORD,
+    ]);
     let reals = *random.pick(&[4096, 4096, 4096, 4095, 4097, 6000]);
     Case { mode, text, records, reals }
 }
@@ -451,10 +463,10 @@ pub fn saves(random: &mut Random) -> [Case; 2] {
 /// A table that no reading gave: small numbers, so that links and types are often in order and often not.
 pub fn table(random: &mut Random, text_len: usize) -> Vec<u32> {
     let rows = random.below(12);
-    let mut records: Vec<u32> = (0..10 * rows + random.below(10))
-        .map(|at| match at % 10 {
+    let mut records: Vec<u32> = (0..RECORD * rows + random.below(RECORD))
+        .map(|at| match at % RECORD {
             0 => random.below(28) as u32,
-            1 if random.percent(70) => random.below(at / 10 + 1) as u32,
+            1 if random.percent(70) => random.below(at / RECORD + 1) as u32,
             1 | 2 | 9 => random.below(rows + 3) as u32,
             3 => random.below(text_len + 3) as u32,
             _ => random.below(20) as u32,
@@ -483,7 +495,7 @@ pub fn spoil_table(random: &mut Random, records: &mut [u32]) {
     }
     for _ in 0..random.below(6) {
         let at = random.below(records.len());
-        let near = (at / 10 + random.below(3)) as u32;
+        let near = (at / RECORD + random.below(3)) as u32;
         let any = random.bits() as u32;
         records[at] = *random.pick(&[0, 1, 9, 10, 24, 25, 26, near, near, 1024, 65_536, u32::MAX, u32::MAX - 1, any]);
     }

@@ -2,7 +2,7 @@
 use mathlib.Core.Bool.{Bool, true, false, cond, _&&_}
 use mathlib.Core.List.{List}
 use mathlib.Core.Path.{_≡_, ap, sym, _∙_}
-use Prim.Native.Nat.{ℕ, _≤_}
+use Prim.Native.Nat.{ℕ, _*_, _≤_}
 use native.Mathlib.Omega.{arith}
 use borrow.Author.Needs.{needs}
 use lib.Ieee.{Float}
@@ -12,7 +12,7 @@ use Rattle.bits.specs.Bits.{sameReals}
 use Rattle.laws.specs.Bytes.{same}
 use Rattle.reader.specs.Answer.{readInto}
 use Rattle.scene.specs.HouseRules.{zeroReal}
-use Rattle.scene.specs.Record.{filled}
+use Rattle.scene.specs.Record.{filled, width}
 use Rattle.laws.proofs.ListLaws.{front-within}
 use Rattle.fresh.proofs.FreshLaws.{tables-refused, tables-compared}
 use Rattle.fresh.specs.Fresh.{freshOf}
@@ -30,7 +30,7 @@ array-borrow-prefix-fresh-records : tie.Need-array-borrow-prefix-fresh-records
 array-borrow-prefix-fresh-records c = search needs
 
 slice-aggregate-read : tie.Need-slice-aggregate-read
-slice-aggregate-read c = let h : c .before .before .least .result ≤ 10240 = omega arith in sym (length-take-le _ _ h)
+slice-aggregate-read c = let h : c .before .before .least .result ≤ 1024 * width = omega arith in sym (length-take-le _ _ h)
 
 array-borrow-prefix-fresh-reals : tie.Need-array-borrow-prefix-fresh-reals
 array-borrow-prefix-fresh-reals c = search needs
@@ -49,7 +49,7 @@ enum-known-count c = search needs
 
 -- the parts that were lent to the reader come back as long as they were
 kept-records : (c : tie.After-read) → length (c .read .last .1 .1 .0) ≡ c .before .before .before .before .least .result
-kept-records c = let h : c .before .before .before .before .least .result ≤ 10240 = omega arith in c .read .kept .1 .1 .0 ∙ length-take-le _ _ h
+kept-records c = let h : c .before .before .before .before .least .result ≤ 1024 * width = omega arith in c .read .kept .1 .1 .0 ∙ length-take-le _ _ h
 
 kept-reals : (c : tie.After-read) → length (c .read .last .1 .1 .1 .0) ≡ c .before .before .before .least2 .result
 kept-reals c = let h : c .before .before .before .least2 .result ≤ 4096 = omega arith in c .read .kept .1 .1 .1 .0 ∙ length-take-le _ _ h

@@ -5,6 +5,7 @@ use native.Mathlib.Nat.{sub-zero}
 use native.Mathlib.Omega.{arith}
 use lib.ListN.{take}
 use borrow.Author.Needs.{needs}
+use Rattle.scene.specs.Record.{width}
 use Rattle.table.proofs.first_records.Statement.{statement}
 use Rattle.table.proofs.first_records.Tie as tie
 
@@ -24,7 +25,7 @@ part-result-end : tie.Need-part-result-end
 part-result-end c = omega (arith, (c .least) .ensures)
 
 returns : tie.Need-returns
-returns c = ap (λ (n : ℕ). take n (c .before .before .before .args .records .now)) (sub-zero (c .before .least .result * 10)) ∙ ap (λ (n : ℕ). take (n * 10) ((c .before .before .before .args) .records .now)) ((c .before .least) .ensures)
+returns c = ap (λ (n : ℕ). take n (c .before .before .before .args .records .now)) (sub-zero (c .before .least .result * width)) ∙ ap (λ (n : ℕ). take (n * width) ((c .before .before .before .args) .records .now)) ((c .before .least) .ensures)
 
 pub first-records-spec : {M : Type 1} → statement M
 first-records-spec =

@@ -1,0 +1,5 @@
+pub mod SearchLaws
+pub mod IndexLaws
+pub mod AlikeLaws
+pub mod ReportLaws
+pub mod TableLaws

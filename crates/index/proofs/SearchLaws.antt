@@ -1,0 +1,131 @@
+-- One turn of the hash and of the search, and where each ends.
+use mathlib.Core.Bool.{Bool, true, false, cond}
+use mathlib.Core.List.{List, [], _∷_, _++_}
+use mathlib.Core.Path.{_≡_, refl, ap, sym, _∙_}
+use Prim.Native.Nat.{ℕ, zero, suc, _+_, _-_, _*_, _%_, _≤_, _<_}
+use native.Mathlib.Numerals.{add-one}
+use native.Mathlib.Omega.{arith}
+use borrow.Author.Tests.{eq-eqb, ne-eqb, le-leb, lt-leb}
+use lib.ListN.{length, drop, getD, set, replicate, drop-of-length-le}
+use lib.Seq.{drop-cons}
+use Rattle.laws.proofs.BoolLaws.{cond-elim}
+use Rattle.laws.proofs.TableLaws.{padded}
+use Rattle.laws.specs.Bytes.{Bytes, same}
+use Rattle.index.specs.Index.{hash, hashFrom, lookedAt, passed, place, searched, seek, stops}
+use Rattle.index.specs.Searches.{foundPlain, sought}
+use Rattle.index.specs.declared.Found.{Found}
+use Rattle.scene.specs.Record.{nameIn}
+
+pub hash-step : (h : ℕ) (w : Bytes) (i : ℕ) → i < length w → hashFrom h (drop i w) ≡ hashFrom ((31 * h + getD w i 0) % 2048) (drop (i + 1) w)
+unfolding hashFrom
+hash-step h w i l = rw (add-one, drop-cons w i 0 l)
+
+pub hash-end : (h : ℕ) (w : Bytes) (i : ℕ) → length w ≤ i → hashFrom h (drop i w) ≡ h
+unfolding hashFrom
+hash-end h w i l = rw (drop-of-length-le w l)
+
+pub hash-lt : (h : ℕ) (w : Bytes) → h < 2048 → hashFrom h w < 2048
+unfolding hashFrom
+hash-lt h [] l = l
+hash-lt h (b ∷ w) l = hash-lt ((31 * h + b) % 2048) w (omega arith)
+
+pub stops-zero : (name : ℕ → Bytes) (w : Bytes) (v : ℕ) → v ≡ 0 → stops name w v ≡ true
+unfolding stops
+stops-zero name w v e = rw (eq-eqb v 0 e)
+
+pub stops-same : (name : ℕ → Bytes) (w : Bytes) (v : ℕ) → (v ≡ 0 → ⊥) → stops name w v ≡ same w (name v)
+unfolding stops
+stops-same name w v e = rw (ne-eqb v 0 e)
+
+-- ---- the first that passes
+
+module _ (test : ℕ → Bool) (m p : ℕ) where
+  more : p < m → seek test (m - p) p ≡ cond (test p) p (seek test (m - (p + 1)) (p + 1))
+  unfolding seek
+  more l =
+      let e : m - p ≡ suc (m - (p + 1)) = omega arith in
+      ap (λ (k : ℕ). seek test k p) e ∙ (let a : suc p ≡ p + 1 = omega arith in ap (λ (k : ℕ). cond (test p) p (seek test (m - (p + 1)) k)) a)
+
+  seek-hit : p < m → test p ≡ true → seek test (m - p) p ≡ p
+  seek-hit l e = more l ∙ ap (λ (b : Bool). cond b p (seek test (m - (p + 1)) (p + 1))) e
+
+  pub seek-miss : p < m → test p ≡ false → seek test (m - p) p ≡ seek test (m - (p + 1)) (p + 1)
+  seek-miss l e = more l ∙ ap (λ (b : Bool). cond b p (seek test (m - (p + 1)) (p + 1))) e
+
+  seek-last : m ≤ p → seek test (m - p) p ≡ p
+  unfolding seek
+  seek-last l = let e : m - p ≡ 0 = omega arith in ap (λ (k : ℕ). seek test k p) e
+
+-- ---- one turn of the search
+
+-- what the search has come to: the entry after p others, and the rest of the search decides
+pub record At (x : List ℕ) (name : ℕ → Bytes) (w : Bytes) (entry p : ℕ) : Type 0 where
+  pub here : entry ≡ place w p
+  pub few : p ≤ 2047
+  pub rest : seek (λ k. stops name w (getD x (place w k) 0)) (2047 - p) p ≡ passed x name w
+
+module _ (x : List ℕ) (name : ℕ → Bytes) (w : Bytes) where
+  pub at-first : (entry : ℕ) → entry ≡ hash w → At x name w entry 0
+  unfolding passed
+  at-first entry e = record { here = (let l = hash-lt 0 w (omega arith) in omega arith); few = omega arith; rest = refl }
+
+  pub at-next : (entry p : ℕ) → p < 2047 → At x name w entry p → stops name w (getD x entry 0) ≡ false → At x name w ((entry + 1) % 2048) (p + 1)
+  at-next entry p l a e =
+      record {
+        here = (let h = a .here in omega arith);
+        few = omega arith;
+        rest = sym (seek-miss (λ k. stops name w (getD x (place w k) 0)) 2047 p l (ap (λ (k : ℕ). stops name w (getD x k 0)) (sym (a .here)) ∙ e)) ∙ a .rest;
+      }
+
+  ends : (entry p v : ℕ) → entry ≡ place w p → p ≡ passed x name w → v ≡ getD x entry 0 → _≡_ {A = Found} (record { entry = entry; number = v; looked = p + 1 }) (searched x name w)
+  ends entry p v h q e =
+      let n : entry ≡ place w (passed x name w) = h ∙ ap (place w) q in
+      let l : p + 1 ≡ suc (passed x name w) = omega arith in
+      (λ i. record { entry = n i; number = (e ∙ ap (λ (k : ℕ). getD x k 0) n) i; looked = l i })
+
+  pub at-hit : (entry p v : ℕ) → p < 2047 → At x name w entry p → v ≡ getD x entry 0 → stops name w v ≡ true → _≡_ {A = Found} (record { entry = entry; number = v; looked = p + 1 }) (searched x name w)
+  at-hit entry p v l a e t = ends entry p v (a .here) (sym (seek-hit (λ k. stops name w (getD x (place w k) 0)) 2047 p l (ap (λ (k : ℕ). stops name w (getD x k 0)) (sym (a .here)) ∙ ap (stops name w) (sym e) ∙ t)) ∙ a .rest) e
+
+  pub at-last : (entry p v : ℕ) → 2047 ≤ p → At x name w entry p → v ≡ getD x entry 0 → _≡_ {A = Found} (record { entry = entry; number = v; looked = p + 1 }) (searched x name w)
+  at-last entry p v l a e = ends entry p v (a .here) (sym (seek-last (λ k. stops name w (getD x (place w k) 0)) 2047 p l) ∙ a .rest) e
+
+  pub at-lt : (entry p : ℕ) → At x name w entry p → entry < 2048
+  at-lt entry p a = let h = a .here in omega arith
+
+pub stops-else : (name : ℕ → Bytes) (w : Bytes) (v : ℕ) (b : Bool) (n : Bytes) → (v ≡ 0 → ⊥) → b ≡ same w n → n ≡ name v → b ≡ stops name w v
+stops-else name w v b n h e q = e ∙ ap (same w) q ∙ sym (stops-same name w v h)
+
+-- ---- the search that is lent an index, or none
+
+module _ (text : Bytes) (table x : List ℕ) (n : ℕ) (w : Bytes) where
+  pub sought-plain : length x < 2048 → sought text table x n w ≡ foundPlain text table x n w
+  unfolding sought
+  sought-plain l = rw (lt-leb 2048 (length x) l)
+
+  pub sought-indexed : 2048 ≤ length x → sought text table x n w ≡ searched x (nameIn text table) w
+  unfolding sought
+  sought-indexed l = rw (le-leb 2048 (length x) l)
+
+-- ---- a number written, and zeros behind the entries
+
+pub set-beyond : (x : List ℕ) (q v : ℕ) → length x ≤ q → set x q v ≡ x
+set-beyond [] q v l = refl
+set-beyond (u ∷ x) zero v l = absurd (omega arith)
+set-beyond (u ∷ x) (suc q) v l = ap {B = List ℕ} (λ (y : List ℕ). u ∷ y) (set-beyond x q v (omega arith))
+
+pub searched-padded : (x : List ℕ) (n : ℕ) (name : ℕ → Bytes) (w : Bytes) → searched (x ++ replicate n 0) name w ≡ searched x name w
+unfolding passed
+searched-padded x n name w =
+    let q : passed (x ++ replicate n 0) name w ≡ passed x name w = (λ i. seek (λ k. stops name w (padded 0 x n (place w k) i)) 2047 0) in
+    (λ i. record { entry = place w (q i); number = padded 0 x n (place w (q i)) i; looked = suc (q i) })
+
+-- ---- how many entries are looked at
+
+seek-most : (test : ℕ → Bool) (n k : ℕ) → seek test n k ≤ k + n
+unfolding seek
+seek-most test zero k = omega arith
+seek-most test (suc n) k = cond-elim (λ r. r ≤ k + suc n) (test k) (omega arith) (omega (arith, seek-most test n (suc k)))
+
+pub looked-most : (x : List ℕ) (name : ℕ → Bytes) (w : Bytes) → lookedAt x name w ≤ 2048
+unfolding passed
+looked-most x name w = omega (arith, seek-most (λ k. stops name w (getD x (place w k) 0)) 2047 0)

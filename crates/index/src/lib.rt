@@ -1,0 +1,103 @@
+// The hashed index of names, and the one search that every look-up goes through: by the index where one of 2,048 entries is lent,
+// else from the latest record back.
+ghost use mathlib.Core.Path.{_≡_};
+ghost use Prim.Native.Nat.{_≤_};
+ghost use lib.ListN.{length, set};
+ghost use Rattle.index.specs.Index.{hash, searched, size, stops};
+ghost use Rattle.index.specs.Searches.{sought};
+ghost use Rattle.scene.specs.Record.{nameIn};
+
+// How many entries of an index are used.
+pub const ENTRIES: usize = 2048;
+
+// Where a search ends, the number found there, 0 for none, and how many entries were looked at. A search without an index ends
+// behind the last entry.
+pub struct Found {
+    pub entry: usize,
+    pub number: usize,
+    pub looked: u32,
+}
+
+fn wide(n: u32) -> usize
+    ensures { λ r. ⌜ r ≡ n ⌝ }
+{
+    n as usize
+}
+
+fn small(b: u8) -> usize
+    ensures { λ r. ⌜ r ≡ b ⌝ }
+{
+    b as usize
+}
+
+// A name's hash.
+fn hash(word: &[u8]) -> usize
+    ensures { λ r. ⌜ r ≡ hash (now (word .entry)) ⌝ }
+{
+    let mut h: usize = 0;
+    let mut i = 0;
+    while i < word.len() {
+        h = (31 * h + small(word[i])) % ENTRIES;
+        i += 1;
+    }
+    h
+}
+
+// Whether an entry that holds a number ends the search for a name.
+fn stops(text: &[u8], records: &[u32], word: &[u8], number: usize) -> bool
+    ensures { λ r. ⌜ r ≡ stops (nameIn (now (text .entry)) (now (records .entry))) (now (word .entry)) number ⌝ }
+{
+    if number == 0 {
+        return true;
+    }
+    lexer::same(word, table::name_of(text, records, number))
+}
+
+// The search from a name's own entry on, going round.
+fn probe(text: &[u8], records: &[u32], index: &[u32], word: &[u8]) -> Found
+    requires { ⌜ size ≤ length (now index) ⌝ }
+    ensures { λ r. ⌜ r ≡ searched (now (index .entry)) (nameIn (now (text .entry)) (now (records .entry))) (now (word .entry)) ⌝ }
+{
+    let mut entry = hash(word);
+    let mut passed: u32 = 0;
+    while passed < 2047 {
+        let number = wide(index[entry]);
+        if stops(text, records, word, number) {
+            return Found {
+                entry,
+                number,
+                looked: passed + 1,
+            };
+        }
+        entry = (entry + 1) % ENTRIES;
+        passed += 1;
+    }
+    Found {
+        entry,
+        number: wide(index[entry]),
+        looked: passed + 1,
+    }
+}
+
+// The search for a name among the first `count` records.
+pub fn search(text: &[u8], records: &[u32], index: &[u32], count: usize, word: &[u8]) -> Found
+    ensures { λ r. ⌜ r ≡ sought (now (text .entry)) (now (records .entry)) (now (index .entry)) count (now (word .entry)) ⌝ }
+{
+    if index.len() < ENTRIES {
+        return Found {
+            entry: index.len(),
+            number: lookup::find(text, records, count, word),
+            looked: 0,
+        };
+    }
+    probe(text, records, index, word)
+}
+
+// Writes a number where a search ended; a search without an index ended behind the last entry.
+pub fn put(index: &mut [u32], entry: usize, number: u32)
+    ensures { λ _. ⌜ now (index .exit) ≡ set (now (index .entry)) entry number ⌝ }
+{
+    if entry < index.len() {
+        index[entry] = number;
+    }
+}

@@ -32,6 +32,9 @@ enum kribbelsteen_mode { KRIBBELSTEEN_NEW = 0, KRIBBELSTEEN_ARCHIVE = 1 };
 #define KRIBBELSTEEN_MOST_PRIMITIVES 1024
 #define KRIBBELSTEEN_MOST_REALS 4096
 
+/* Entries that an index of names has to have. */
+#define KRIBBELSTEEN_INDEX 2048
+
 /* Numbers in a record, and where each stands in it. Record n begins at entry KRIBBELSTEEN_RECORD * (n - 1). */
 #define KRIBBELSTEEN_RECORD 11
 enum kribbelsteen_field {
@@ -51,7 +54,7 @@ enum kribbelsteen_field {
 /* Why something is refused. */
 enum kribbelsteen_reason {
     KRIBBELSTEEN_ACCEPTED = 0,
-    /* kribbelsteen_read, _read_both and _write; in brackets the place that is answered */
+    /* kribbelsteen_read, _read_indexed, _read_both and _write; in brackets the place that is answered */
     KRIBBELSTEEN_TEXT_TOO_LONG = 1,     /* text over 65,536 bytes (0) */
     KRIBBELSTEEN_BAD_BYTE = 2,          /* a word with a byte outside 33 to 126 (the word) */
     KRIBBELSTEEN_WORD_TOO_LONG = 3,     /* a word over 64 bytes (the word) */
@@ -67,6 +70,7 @@ enum kribbelsteen_reason {
     KRIBBELSTEEN_BAD_NUMERAL = 14,      /* breaks the numeral rule (numeral) */
     KRIBBELSTEEN_NUMERAL_RANGE = 15,    /* coefficient or power too large (numeral) */
     KRIBBELSTEEN_HOUSE_RULE = 16,       /* breaks a house rule (the real that completes the breach) */
+    KRIBBELSTEEN_INDEX_TOO_SMALL = 24,  /* kribbelsteen_read_indexed: the index has under 2,048 entries (0) */
     KRIBBELSTEEN_RETIRED_TYPE = 28,     /* antimatter, in the new reading (type) */
     /* kribbelsteen_name and kribbelsteen_finish */
     KRIBBELSTEEN_NO_SUCH_PRIMITIVE = 17,
@@ -90,7 +94,8 @@ enum kribbelsteen_state { KRIBBELSTEEN_ONLY_LEFT = 1, KRIBBELSTEEN_ONLY_RIGHT = 
 #define KRIBBELSTEEN_MISS 1
 #define KRIBBELSTEEN_TOTAL_REFLECTION 1
 
-/* Reads a scene text, in a mode, into two tables.
+/* Reads a scene text, in a mode, into two tables. Take this call where no more memory is to be lent, else
+ * kribbelsteen_read_indexed.
  *
  * There is room for the lesser of 1,024 and records_len / 11 records, and for the lesser of 4,096 and reals_len reals.
  * Returns 0 if the scene is accepted, else the reason, 1 to 16 or 28; the earliest place decides, and at one place the lowest
@@ -101,6 +106,25 @@ enum kribbelsteen_state { KRIBBELSTEEN_ONLY_LEFT = 1, KRIBBELSTEEN_ONLY_RIGHT = 
  * entries are 0. The text is not written. */
 uint32_t kribbelsteen_read(uint32_t mode, const uint8_t *text, size_t text_len, uint32_t *records, size_t records_len,
                            double *reals, size_t reals_len, size_t answer[3]);
+
+/* Reads a scene text as kribbelsteen_read does, with a lent index of names. Take this call wherever 8 KiB can be lent for the index:
+ * it is as fast up to about a hundred primitives and faster beyond, as with usual names its time does not grow with the square of
+ * their number.
+ *
+ * An index of KRIBBELSTEEN_INDEX entries is enough, and no more of a longer one are used. With as many, reason, place, both numbers
+ * and both tables are those of kribbelsteen_read, for every text. A name's hash starts at 0 and with each byte becomes 31 times itself
+ * plus the byte, modulo 2,048. A search goes from that entry on, and from the last of the 2,048 to the first, until an entry is 0 or
+ * holds the number of a primitive of that name. There is one for each modifier but `void`, one for each alias target, and one for each
+ * primitive that is no surface, whose number is written where it ends. Names made to collide cost more looks, so that the
+ * call may take longer than kribbelsteen_read, but never change the answer.
+ * Returns 0 if the scene is accepted, else the reason, 1 to 16, 24 or 28: 24 after 1 and before all others, else as
+ * kribbelsteen_read does.
+ * answer: place of the refusal, number of primitives, number of reals, and how many entries of the index were looked at, the last of
+ * each search included. An accepted scene has place 0, a refused one all three numbers 0.
+ * Writes all three tables whole, whatever they held: after acceptance all entries of the index from KRIBBELSTEEN_INDEX on are 0, and
+ * after a refusal all entries of all tables are 0, whatever the lengths. The text is not written. */
+uint32_t kribbelsteen_read_indexed(uint32_t mode, const uint8_t *text, size_t text_len, uint32_t *records, size_t records_len,
+                                   double *reals, size_t reals_len, uint32_t *index, size_t index_len, size_t answer[4]);
 
 /* The name of a primitive, in a table of `count` records that may hold anything.
  *

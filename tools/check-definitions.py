@@ -1,10 +1,10 @@
 #!/usr/bin/env python3
-"""Whether the definitions of crate scene and the reader of tools/scene.py agree, on texts made from a seed.
+"""Whether the definitions of the crates scene and index and the reader of tools/scene.py agree, on texts made from a seed.
 
     tools/check-definitions.py [COUNT [SEED]]
 
-Each text becomes a row that the prover computes: the answer's four numbers, the records and the bits of the reals. The rows are
-written to a copy of the repository in a temporary folder, since computing them takes longer than the gate should. Needs rt."""
+Each text becomes a row that the prover computes: the answer's four numbers, the report of entries looked at, the records, the bits
+of the reals, and each used entry of the index with its place. The rows are written to a copy of the repository in a temporary folder, since computing them takes longer than the gate should. Needs rt."""
 import collections
 import pathlib
 import re
@@ -23,8 +23,10 @@ OTHERS = "samples|bits|comparison|content|keys"  # crates that the samples use a
 def expected(archive, text, records, reals):
     table, doubles = scene.read(archive, text, records, reals)
     if isinstance(table, int):
-        return [table, doubles, 0, 0]
-    return [0, 0, len(table), len(doubles)] + [n for r in table for n in r] + doubles
+        return [table, doubles, 0, 0, 0]
+    index, looked = scene.index_of(text, table)
+    used = [n for entry, number in enumerate(index) if number for n in (entry, number)]
+    return [0, 0, len(table), len(doubles), looked] + [n for r in table for n in r] + doubles + used
 
 
 def numbers(ns):
@@ -53,15 +55,29 @@ with tempfile.TemporaryDirectory() as folder:
     (crate / "src" / "lib.rt").write_text("// Rows computed from the definitions.\n")
     (crate / "specs" / "Lib.antt").write_text("pub mod Rows\n")
     head = [line.replace("Rattle.scene.specs", "Rattle.scene") for line in uses]
-    head += ["use mathlib.Core.List.{map}", "use lib.Ieee.{binary64}", "use Rattle.scene.specs.Record.{answer, flat, fields, newlines}"]
-    everything = "everything : ℕ\nunfolding " + names[0] + " " + names[1].replace("readings ", "") + " flat newlines toBits\neverything = 0\n"
+    head += [
+        "use mathlib.Core.Bool.{cond}",
+        "use mathlib.Core.List.{map}",
+        "use lib.Dec.{eqb}",
+        "use lib.Ieee.{binary64}",
+        "use Rattle.scene.specs.Record.{answer, flat, fields, newlines}",
+        "use Rattle.index.specs.Index.{hashFrom, indexBy, passed, seek, stops}",
+        "use Rattle.index.specs.Report.{allLooked, givesNo, indexImage, nameNo, report}",
+    ]
+    opens = " flat newlines toBits allLooked givesNo nameNo indexBy hashFrom passed seek stops used"
+    everything = "everything : ℕ\nunfolding " + names[0] + " " + names[1].replace("readings ", "") + opens + "\neverything = 0\n"
+    used = (
+        "used : ℕ → List ℕ → List ℕ\n"
+        "used k [] = []\n"
+        "used k (n ∷ ns) = cond (eqb n 0) (used (suc k) ns) (k ∷ n ∷ used (suc k) ns)\n"
+    )
     facts = (
         "facts : Settings → Bytes → List ℕ\n"
-        "facts r t = let x = read r t in let a = answer x in a .reason ∷ a .place ∷ a .primitives ∷ a .reals ∷ flat t (records (entries x)) ++ map (toBits binary64) (realTable (entries x))\n"
+        "facts r t = let x = read r t in let a = answer x in a .reason ∷ a .place ∷ a .primitives ∷ a .reals ∷ report x ∷ flat t (records (entries x)) ++ map (toBits binary64) (realTable (entries x)) ++ used 0 (indexImage 2048 x)\n"
     )
-    (crate / "specs" / "Rows.antt").write_text("\n".join(head) + "\n\n" + everything + "\n" + facts + "\n" + "\n".join(rows))
+    (crate / "specs" / "Rows.antt").write_text("\n".join(head) + "\n\n" + used + "\n" + everything + "\n" + facts + "\n" + "\n".join(rows))
     with (copy / "crates.txt").open("a") as f:
-        f.write("rows: laws lexer numeral_parts numeral scene\n")
+        f.write("rows: laws lexer numeral_parts numeral scene index\n")
     ran = subprocess.run(["rt", "check", "rows"], cwd=copy, capture_output=True, text=True)
 out = ran.stdout + ran.stderr
 differ = sorted({line.split("`")[1] for line in out.split("\n") if ": error: `row" in line})

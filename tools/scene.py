@@ -196,6 +196,30 @@ def read(archive, text, record_room=1024, real_room=4096):
     return Reader(archive, text, record_room, real_room).read()
 
 
+def index_of(text, records):
+    """The index of 2,048 entries that an accepted text leaves, and how many entries its searches looked at."""
+    names = [None] + [text[r[3] : r[3] + r[4]] for r in records]
+    index, looked = [0] * 2048, 0
+
+    def search(name):
+        nonlocal looked
+        entry = 0
+        for b in name:
+            entry = (31 * entry + b) % 2048
+        looked += 1
+        while index[entry] and names[index[entry]] != name:
+            entry, looked = (entry + 1) % 2048, looked + 1
+        return entry
+
+    for number, r in enumerate(records, 1):
+        for link in (r[1], r[2]):
+            if link:
+                search(names[link])
+        if r[0] > LAST_SURFACE:
+            index[search(names[number])] = number
+    return index, looked
+
+
 def listing(archive, text):
     records, reals = read(archive, text)
     if isinstance(records, int):

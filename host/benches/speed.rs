@@ -1,12 +1,13 @@
-//! How fast the library reads, beside a reader of the usual kind in Rust and a bare scan of the bytes, on the same texts in one run.
+//! How fast the library reads, plainly and with an index, beside a reader of the usual kind in Rust and a bare scan of the bytes, on the
+//! same texts in one run.
 //!
-//! Each time is the median of several rounds; in each round the three take turns, so that all meet the same state of the machine.
-//! Both readers clear the whole of both tables first.
+//! Each time is the median of several rounds; in each round the four take turns, so that all meet the same state of the machine.
+//! All readers clear the whole of their tables first, the index too.
 
 #[path = "../reference/mod.rs"]
 mod reference;
 
-use kribbelsteen::{raw, Mode, MOST_BYTES, MOST_PRIMITIVES, MOST_REALS, RECORD};
+use kribbelsteen::{raw, Mode, INDEX, MOST_BYTES, MOST_PRIMITIVES, MOST_REALS, RECORD};
 use reference::scene;
 use std::hint::black_box;
 use std::time::{Duration, Instant};
@@ -59,6 +60,16 @@ fn many_reals() -> String {
     text
 }
 
+/// A full file whose names all have one hash, each under the one before it: the longest way for every search of the index.
+fn colliding() -> String {
+    let pair = |n: usize, bit: usize| if n >> bit & 1 == 0 { "Aa" } else { "BB" };
+    let name = |n: usize| (0..10).map(|bit| pair(n, bit)).collect::<String>();
+    let line = |modifier: &str, n: usize| format!("{modifier} light {} 0 0 3 1 1 1\n", name(n));
+    let mut text = line("void", 0);
+    (1..MOST_PRIMITIVES).for_each(|n| text += &line(&name(n - 1), n));
+    text
+}
+
 // ---- what is timed
 
 /// 0 blank, 1 good in a word, 2 bad.
@@ -92,22 +103,33 @@ fn scan_bytes(text: &[u8]) {
     black_box(scan(black_box(text)));
 }
 
+/// Lent tables, which hold something before they are read into.
 struct Tables {
     records: Vec<u32>,
     reals: Vec<f64>,
+    index: Vec<u32>,
 }
 
 impl Tables {
     fn new() -> Self {
-        Tables { records: vec![0; RECORD * MOST_PRIMITIVES], reals: vec![0.0; MOST_REALS] }
+        Tables { records: vec![9; RECORD * MOST_PRIMITIVES], reals: vec![9.0; MOST_REALS], index: vec![9; INDEX] }
     }
 
-    fn read_by_library(&mut self, text: &[u8]) {
+    fn read_plainly(&mut self, text: &[u8]) {
         black_box(raw::read(Mode::New.number(), black_box(text), &mut self.records, &mut self.reals));
+    }
+
+    fn read_indexed(&mut self, text: &[u8]) {
+        let Tables { records, reals, index } = self;
+        black_box(raw::read_indexed(Mode::New.number(), black_box(text), records, reals, index));
     }
 
     fn read_by_reference(&mut self, text: &[u8]) {
         let _ = black_box(scene::read(false, black_box(text), &mut self.records, &mut self.reals));
+    }
+
+    fn holds_what(&self, other: &Tables) -> bool {
+        self.records == other.records && self.reals == other.reals
     }
 }
 
@@ -135,57 +157,55 @@ fn median(mut times: Vec<f64>) -> f64 {
     times[times.len() / 2]
 }
 
-/// Seconds per text: library, reference, scan.
-fn measure(text: &[u8]) -> [f64; 3] {
-    let (mut ours, mut theirs) = (Tables::new(), Tables::new());
+/// Seconds per text: plain, indexed, reference, scan.
+fn measure(text: &[u8]) -> [f64; 4] {
+    let [mut plain, mut indexed, mut theirs] = [(); 3].map(|()| Tables::new());
     let calls = [
-        calls_of(|| ours.read_by_library(text)),
+        calls_of(|| plain.read_plainly(text)),
+        calls_of(|| indexed.read_indexed(text)),
         calls_of(|| theirs.read_by_reference(text)),
         calls_of(|| scan_bytes(text)),
     ];
-    assert!(ours.records == theirs.records && ours.reals == theirs.reals, "both readers fill the same tables");
-    let mut times = [(); 3].map(|()| Vec::with_capacity(ROUNDS));
+    assert!(plain.holds_what(&theirs) && indexed.holds_what(&theirs), "all readers fill the same tables");
+    let mut times = [(); 4].map(|()| Vec::with_capacity(ROUNDS));
     for _ in 0..ROUNDS {
-        times[0].push(time(calls[0], || ours.read_by_library(text)));
-        times[1].push(time(calls[1], || theirs.read_by_reference(text)));
-        times[2].push(time(calls[2], || scan_bytes(text)));
+        times[0].push(time(calls[0], || plain.read_plainly(text)));
+        times[1].push(time(calls[1], || indexed.read_indexed(text)));
+        times[2].push(time(calls[2], || theirs.read_by_reference(text)));
+        times[3].push(time(calls[3], || scan_bytes(text)));
     }
     times.map(median)
 }
 
 fn report(what: &str, text: &str) {
     let text = text.as_bytes();
-    let mut tables = Tables::new();
-    let (reason, [_, primitives, reals]) = raw::read(Mode::New.number(), text, &mut tables.records, &mut tables.reals);
+    let Tables { mut records, mut reals, mut index } = Tables::new();
+    let (reason, [_, primitives, used, looked]) =
+        raw::read_indexed(Mode::New.number(), text, &mut records, &mut reals, &mut index);
     assert_eq!(reason, 0, "{what} is accepted");
-    let [ours, theirs, floor] = measure(text);
-    let speed = |seconds: f64| text.len() as f64 / seconds / 1e6;
+    let times = measure(text);
+    let [plain, indexed, theirs, floor] = times.map(|seconds| seconds * 1e6);
     println!(
-        "{what:<18} {:>6} {primitives:>6} {reals:>6} | {:>10.2} {:>10.2} {:>8.2} | {:>7.1} {:>7.1} {:>7.0} | {:>8.2} {:>8.1}",
+        "{what:<17} {:>6} {primitives:>6} {used:>6} {looked:>9} | {plain:>9.2} {indexed:>9.2} {theirs:>9.2} {floor:>7.2} | {:>8.2} {:>8.2}",
         text.len(),
-        ours * 1e6,
-        theirs * 1e6,
-        floor * 1e6,
-        speed(ours),
-        speed(theirs),
-        speed(floor),
-        ours / theirs,
-        ours / floor,
+        indexed / theirs,
+        plain / theirs,
     );
 }
 
 fn main() {
     println!(
-        "{:<18} {:>6} {:>6} {:>6} | {:>10} {:>10} {:>8} | {:>7} {:>7} {:>7} | {:>8} {:>8}",
-        "", "", "primi-", "", "library", "reference", "scan", "library", "refer.", "scan", "library/", "library/",
+        "{:<17} {:>6} {:>6} {:>6} {:>9} | {:>9} {:>9} {:>9} {:>7} | {:>8} {:>8}",
+        "", "", "primi-", "", "", "plain", "indexed", "Rust", "scan", "indexed/", "plain/",
     );
     println!(
-        "{:<18} {:>6} {:>6} {:>6} | {:>10} {:>10} {:>8} | {:>7} {:>7} {:>7} | {:>8} {:>8}",
-        "scene", "bytes", "tives", "reals", "us", "us", "us", "MB/s", "MB/s", "MB/s", "referen.", "scan",
+        "{:<17} {:>6} {:>6} {:>6} {:>9} | {:>9} {:>9} {:>9} {:>7} | {:>8} {:>8}",
+        "scene", "bytes", "tives", "reals", "looked", "us", "us", "us", "us", "Rust", "Rust",
     );
-    report("10 primitives", &room(10));
-    report("100 primitives", &room(100));
-    report("1,000 primitives", &room(1_000));
-    report("modifiers far back", &far_back());
+    report("10 mixed", &room(10));
+    report("100 mixed", &room(100));
+    report("1,000 mixed", &room(1_000));
+    report("1,024 tiny ones", &far_back());
     report("4,096 reals", &many_reals());
+    report("1,024 colliding", &colliding());
 }

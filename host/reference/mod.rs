@@ -2,6 +2,7 @@
 //! with and to measure against. They are no part of the library: tests and benchmark take them in by path, each what it needs.
 #![allow(dead_code)]
 
+pub mod index;
 pub mod random;
 pub mod rays;
 pub mod saves;

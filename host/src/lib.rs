@@ -36,7 +36,7 @@ mod writing;
 
 pub use questions::{finish, name, Finish, Question};
 pub use rays::{fresnel, ring, root, sphere, Ray, Reflection, Ring, Sphere, Step};
-pub use reading::{read, Counts, Mode, Primitive, Reason, Refusal, Scene};
+pub use reading::{read, read_indexed, Counts, Indexed, Mode, Primitive, Reason, Refusal, Scene};
 pub use saves::{compare, read_both, Line, Lines, SaveRefusal, Saves, Side, State};
 pub use types::Type;
 pub use words::{next_word, words, Word, Words};
@@ -52,3 +52,5 @@ pub const MOST_PRIMITIVES: usize = 1_024;
 pub const MOST_REALS: usize = 4_096;
 /// How many numbers of a lent table a primitive takes.
 pub const RECORD: usize = 11;
+/// How many entries an index of names has to have.
+pub const INDEX: usize = 2_048;

@@ -15,6 +15,18 @@ extern "C" {
         reals_len: usize,
         answer: *mut usize,
     ) -> u32;
+    fn kribbelsteen_read_indexed(
+        mode: u32,
+        text: *const u8,
+        text_len: usize,
+        records: *mut u32,
+        records_len: usize,
+        reals: *mut f64,
+        reals_len: usize,
+        index: *mut u32,
+        index_len: usize,
+        answer: *mut usize,
+    ) -> u32;
     fn kribbelsteen_name(
         text: *const u8,
         text_len: usize,
@@ -95,6 +107,34 @@ pub fn read(mode: u32, text: &[u8], records: &mut [u32], reals: &mut [f64]) -> (
             records.len(),
             reals.as_mut_ptr(),
             reals.len(),
+            answer.as_mut_ptr(),
+        )
+    };
+    (reason, answer)
+}
+
+/// Reads a scene in the mode of a number, with a lent index of names: the reason, 0 if accepted; then place, primitives, reals and
+/// how many entries of the index were looked at.
+pub fn read_indexed(
+    mode: u32,
+    text: &[u8],
+    records: &mut [u32],
+    reals: &mut [f64],
+    index: &mut [u32],
+) -> (u32, [usize; 4]) {
+    let mut answer = [usize::MAX; 4];
+    // SAFETY: each pointer and length is that of a slice, the answer has four entries, and the borrows keep what is written apart.
+    let reason = unsafe {
+        kribbelsteen_read_indexed(
+            mode,
+            text.as_ptr(),
+            text.len(),
+            records.as_mut_ptr(),
+            records.len(),
+            reals.as_mut_ptr(),
+            reals.len(),
+            index.as_mut_ptr(),
+            index.len(),
             answer.as_mut_ptr(),
         )
     };

@@ -1,6 +1,6 @@
 //! Scene texts, read into lent tables.
 
-use crate::{questions, raw, writing, Finish, Question, Type, Unwritten, Word, Words, RECORD};
+use crate::{questions, raw, writing, Finish, Question, Type, Unwritten, Word, Words, INDEX, RECORD};
 use std::error::Error;
 use std::fmt;
 
@@ -55,6 +55,8 @@ pub enum Reason {
     NumeralRange = 15,
     /// A real breaks a house rule.
     HouseRule = 16,
+    /// The lent index has under 2,048 entries.
+    IndexTooSmall = 24,
     /// The type is antimatter, which the new reading refuses.
     RetiredType = 28,
 }
@@ -65,7 +67,7 @@ impl Reason {
         self as u32
     }
 
-    /// The reason of a number; none outside 1 to 16 and 28, and none for 11, which is given no more.
+    /// The reason of a number; none outside 1 to 16, 24 and 28, and none for 11, which is given no more.
     pub fn from_number(number: u32) -> Option<Reason> {
         Some(match number {
             1 => Reason::TextTooLong,
@@ -83,6 +85,7 @@ impl Reason {
             14 => Reason::BadNumeral,
             15 => Reason::NumeralRange,
             16 => Reason::HouseRule,
+            24 => Reason::IndexTooSmall,
             28 => Reason::RetiredType,
             _ => return None,
         })
@@ -107,12 +110,13 @@ impl fmt::Display for Reason {
             Reason::BadNumeral => "not a numeral",
             Reason::NumeralRange => "coefficient or power too large",
             Reason::HouseRule => "real breaks a house rule",
+            Reason::IndexTooSmall => "index under 2,048 entries",
             Reason::RetiredType => "antimatter in a new scene",
         })
     }
 }
 
-/// Why a scene is refused, and where. Both tables are all zero then.
+/// Why a scene is refused, and where. All lent tables are all zero then.
 #[derive(Clone, Copy, Debug, PartialEq, Eq, Hash)]
 pub struct Refusal {
     /// The reason; of several at one place the one with the lowest number.
@@ -124,7 +128,8 @@ pub struct Refusal {
 impl Refusal {
     /// The refusal of a reader's number.
     pub(crate) fn from_number(number: u32, place: usize) -> Refusal {
-        Refusal { reason: Reason::from_number(number).expect("the library refuses scenes by 1 to 16 and 28"), place }
+        let reason = Reason::from_number(number).expect("the library refuses scenes by 1 to 16, 24 and 28");
+        Refusal { reason, place }
     }
 }
 
@@ -147,10 +152,52 @@ pub struct Counts {
 
 /// Reads a scene, in a mode, into both tables. There is room for a record in each eleven numbers, at most 1,024 of them, and for at most 4,096
 /// reals. Entries beyond those used become 0, and all of them if the scene is refused.
+///
+/// Take this call where no more memory is to be lent, else [`read_indexed`].
 pub fn read(mode: Mode, text: &[u8], records: &mut [u32], reals: &mut [f64]) -> Result<Counts, Refusal> {
     let (number, [place, primitives, reals]) = raw::read(mode.number(), text, records, reals);
     match number {
         0 => Ok(Counts { primitives, reals }),
+        _ => Err(Refusal::from_number(number, place)),
+    }
+}
+
+/// How much an accepted scene holds, and what its index cost.
+#[derive(Clone, Copy, Debug, PartialEq, Eq, Hash)]
+pub struct Indexed {
+    /// As [`read`] gives them.
+    pub counts: Counts,
+    /// How many entries of the index were looked at, over all searches.
+    pub looked: usize,
+}
+
+/// Reads a scene as [`read`] does, with a lent index of names; [`INDEX`] entries are enough, and with fewer the scene is refused.
+/// With as many, refusal, counts and both tables are those of [`read`], for every text. Entries of the index beyond those become 0, and
+/// all of them if the scene is refused.
+///
+/// Take this call wherever 8 KiB can be lent: it is as fast up to about a hundred primitives and faster beyond, as with usual names
+/// its time does not grow with the square of their number. Names made to collide cost more looks, so that it may take longer than
+/// [`read`], but never change the answer.
+///
+/// ```
+/// use kribbelsteen::{read_indexed, Mode, INDEX, RECORD};
+///
+/// let text = b"void light lamp 0 0 3 1 1 1\nlamp sphere bulb 0 0 4 0 0 0 1\n";
+/// let (mut records, mut reals, mut index) = ([0; RECORD * 2], [0.0; 7], [0; INDEX]);
+/// let read = read_indexed(Mode::New, text, &mut records, &mut reals, &mut index)?;
+/// assert_eq!((read.counts.primitives, read.looked), (2, 2));
+/// # Ok::<(), Box<dyn std::error::Error>>(())
+/// ```
+pub fn read_indexed(
+    mode: Mode,
+    text: &[u8],
+    records: &mut [u32],
+    reals: &mut [f64],
+    index: &mut [u32],
+) -> Result<Indexed, Refusal> {
+    let (number, [place, primitives, reals, looked]) = raw::read_indexed(mode.number(), text, records, reals, index);
+    match number {
+        0 => Ok(Indexed { counts: Counts { primitives, reals }, looked }),
         _ => Err(Refusal::from_number(number, place)),
     }
 }
@@ -165,14 +212,27 @@ pub struct Scene<'s> {
 }
 
 impl<'s> Scene<'s> {
-    /// Reads a scene, as [`read`] does, and keeps its parts together.
+    /// Reads a scene and keeps its parts together. This is the fast call: it lends [`read_indexed`] an index of its own, 8 KiB on the
+    /// stack. Only [`read`] does without one.
     pub fn read(
         mode: Mode,
         text: &'s [u8],
         records: &'s mut [u32],
         reals: &'s mut [f64],
     ) -> Result<Scene<'s>, Refusal> {
-        let counts = read(mode, text, records, reals)?;
+        Scene::read_indexed(mode, text, records, reals, &mut [0; INDEX])
+    }
+
+    /// Reads a scene, as [`read_indexed`] does, and keeps its parts together. Take this call where the index is not to be on the
+    /// stack, else [`Scene::read`].
+    pub fn read_indexed(
+        mode: Mode,
+        text: &'s [u8],
+        records: &'s mut [u32],
+        reals: &'s mut [f64],
+        index: &mut [u32],
+    ) -> Result<Scene<'s>, Refusal> {
+        let Indexed { counts, .. } = read_indexed(mode, text, records, reals, index)?;
         Ok(Scene::of(mode, text, records, reals, counts))
     }
 

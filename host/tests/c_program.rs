@@ -26,6 +26,11 @@ no=2 line=2 mod=1 type=24 name=slot finish=1 links=1
 name 9: 17
 name, 9 stated: 18
 finish 3, no links: 17 0 0
+indexed=0 place=0 primitives=4 reals=14 looked=5
+entry 458: 2
+entry 1058: 4
+indexed=24 place=0 primitives=0 reals=0 looked=0
+indexed=5 place=4 primitives=0 reals=0 looked=0
 name=bulb nth=1 state=right
 name=lamp nth=1 state=changed
 name=trim nth=1 state=left

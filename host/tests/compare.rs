@@ -10,6 +10,7 @@ mod made;
 
 use kribbelsteen::raw;
 use made::{floats, numerals, scenes};
+use reference::index::{self, INDEX};
 use reference::random::Random;
 use reference::saves::{Comparison, Save};
 use reference::scene::RECORD;
@@ -289,6 +290,146 @@ fn limits_are_met_alike() {
             let mut text = text.to_vec();
             text[at] = byte;
             compare_reading(&scenes::Case { mode: 0, text, records: 3 * RECORD, reals: 11 });
+        }
+    }
+}
+
+// ---- scenes read with an index
+
+fn expected_indexed(
+    archive: bool,
+    text: &[u8],
+    records: &mut [u32],
+    reals: &mut [f64],
+    index: &mut [u32],
+) -> (u32, [usize; 4]) {
+    match index::read_indexed(archive, text, records, reals, index) {
+        Ok((counts, looked)) => (0, [0, counts.primitives, counts.reals, looked]),
+        Err(refused) => (refused.reason, [refused.place, 0, 0, 0]),
+    }
+}
+
+struct IndexedRead {
+    reason: u32,
+    answer: [usize; 4],
+    index: Vec<u32>,
+}
+
+/// Reads a scene with an index of so many entries both ways, and without one, compares all that comes of it, and gives answer and
+/// index.
+fn compare_indexed(case: &scenes::Case, entries: usize) -> IndexedRead {
+    let (filling, real_filling) = (0xdead_beef, -1234.5);
+    let mut records = Lent::new(case.records, filling);
+    let mut reals = Lent::new(case.reals, real_filling);
+    let mut index = Lent::new(entries, filling);
+    // Of the entries' numbers some are such as a reading gives
+    index.table().iter_mut().step_by(2).zip(1..).for_each(|(entry, number)| *entry = number);
+    let text = case.text.clone();
+    let (reason, answer) = raw::read_indexed(case.mode, &text, records.table(), reals.table(), index.table());
+
+    let mut expected_records = vec![1; case.records];
+    let mut expected_reals = vec![1.0; case.reals];
+    let mut expected_index = vec![1; entries];
+    let expected = expected_indexed(
+        case.is_archive(),
+        &case.text,
+        &mut expected_records,
+        &mut expected_reals,
+        &mut expected_index,
+    );
+
+    let shown = || format!("{}, an index of {entries}", shown(case));
+    assert_eq!((reason, answer), expected, "{}", shown());
+    assert!(records.table() == expected_records, "records of {}", shown());
+    assert!(bits(reals.table()).eq(bits(&expected_reals)), "reals of {}", shown());
+    assert!(index.table() == expected_index, "index of {}", shown());
+    assert!(text == case.text, "the text was written: {}", shown());
+    assert!(records.margins_are(filling), "written outside the records: {}", shown());
+    assert!(reals.margins_are(real_filling), "written outside the reals: {}", shown());
+    assert!(index.margins_are(filling), "written outside the index: {}", shown());
+    if entries >= INDEX {
+        let (mut plain_records, mut plain_reals) = (vec![1; case.records], vec![1.0; case.reals]);
+        let plain = raw::read(case.mode, &text, &mut plain_records, &mut plain_reals);
+        assert_eq!((reason, [answer[0], answer[1], answer[2]]), plain, "{}", shown());
+        assert!(records.table() == plain_records, "records of both calls for {}", shown());
+        assert!(bits(reals.table()).eq(bits(&plain_reals)), "reals of both calls for {}", shown());
+    }
+    IndexedRead { reason, answer, index: expected_index }
+}
+
+/// A scene in both modes, with indexes just large enough, longer and too short.
+fn compare_indexes(tally: &mut Tally, case: scenes::Case) {
+    let other = scenes::Case { mode: u32::from(!case.is_archive()), text: case.text.clone(), ..case };
+    for case in [case, other] {
+        for entries in [0, INDEX - 1, INDEX, INDEX + 12] {
+            tally.add(compare_indexed(&case, entries).reason);
+        }
+    }
+}
+
+#[test]
+fn scenes_are_indexed_alike() {
+    let mut random = random(10);
+    let mut any = Tally::new("scenes indexed");
+    let mut colliding = Tally::new("scenes indexed whose names collide");
+    for _ in 0..scene_count() / 8 {
+        compare_indexes(&mut any, scenes::case(&mut random));
+        compare_indexes(&mut colliding, scenes::colliding(&mut random));
+    }
+    any.report(reasons().chain([24]), 40_000);
+    colliding.report([0, 24], 10_000);
+}
+
+/// A light of a name, under a modifier.
+fn light(modifier: &[u8], name: &[u8]) -> Vec<u8> {
+    [modifier, b" light ", name, b" 0 0 3 1 1 1\n"].concat()
+}
+
+#[test]
+fn an_index_goes_round() {
+    let names: Vec<_> = (0..4).map(|n| scenes::name_of_hash(INDEX - 1, n, 2)).collect();
+    let [a, b, c, d] = [0, 1, 2, 3].map(|n| names[n].as_slice());
+    let next = scenes::name_of_hash(0, 0, 2);
+    let lights = [light(b"void", a), light(a, b), light(b, c), light(b"void", &next), light(c, a)].concat();
+    let others = [b"void alias ".as_slice(), d, b" ", &next, b"\n", d, b" sphere ", a, b" 0 0 4 0 0 0 1\n"].concat();
+    for entries in [INDEX, INDEX + 12] {
+        let read = compare_indexed(&with_most([lights.clone(), others.clone()].concat()), entries);
+        // By statement: the modifier, an alias's target, the name
+        let looked = 1 + (1 + 2) + (2 + 3) + 3 + (3 + 1) + (3 + 5) + 5;
+        assert_eq!((read.reason, read.answer), (0, [0, 7, 19, looked]));
+        assert_eq!((read.index[INDEX - 1], &read.index[..5]), (5, [2, 3, 4, 6, 0].as_slice()));
+        assert_eq!(read.index.iter().filter(|&&number| number != 0).count(), 5);
+    }
+}
+
+/// As many names of one hash as there may be primitives, each looked for from the first entry on.
+#[test]
+fn a_full_index_of_colliding_names_is_alike() {
+    let most = scene::MOST_RECORDS;
+    for hash in [0, 1_500, INDEX - 1] {
+        let names: Vec<_> = (0..most).map(|n| scenes::name_of_hash(hash, n, 10)).collect();
+        let modifiers = [b"void".as_slice()].into_iter().chain(names.iter().map(Vec::as_slice));
+        let text = modifiers.zip(&names).map(|(modifier, name)| light(modifier, name)).collect::<Vec<_>>().concat();
+        let read = compare_indexed(&with_most(text.clone()), INDEX);
+        assert_eq!((read.reason, read.answer), (0, [0, most, 3 * most, most * most]));
+        // One more has no room, and what was indexed goes
+        let refused = compare_indexed(&with_most([text.as_slice(), b"void"].concat()), INDEX);
+        assert_eq!((refused.reason, refused.answer), (6, [text.len(), 0, 0, 0]));
+    }
+}
+
+#[test]
+fn a_short_index_is_refused_after_a_long_text_alone() {
+    for entries in [0, 1, INDEX - 1] {
+        let reason = |text: Vec<u8>| compare_indexed(&with_most(text), entries).reason;
+        assert_eq!(reason(vec![b'!'; scene::MOST_BYTES]), 24);
+        assert_eq!(reason(vec![b'!'; scene::MOST_BYTES + 1]), 1);
+        assert_eq!(reason(full(1_025)), 24);
+        assert_eq!(reason(Vec::new()), 24);
+    }
+    for (records, reals) in [(0, 0), (1, 0), (RECORD, 3), (RECORD + 1, 2)] {
+        for entries in [0, INDEX - 1, INDEX, 3 * INDEX] {
+            compare_indexed(&scenes::Case { mode: 0, text: light(b"void", b"a"), records, reals }, entries);
         }
     }
 }

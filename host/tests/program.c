@@ -1,5 +1,5 @@
-/* A host program in C: reads a small scene, and prints its names, its finishes, what is new in a later save, its tidy text and a few
- * float answers. */
+/* A host program in C: reads a small scene, and prints its names, its finishes, its index, what is new in a later save, its tidy
+ * text and a few float answers. */
 #include "kribbelsteen.h"
 
 #include <math.h>
@@ -32,6 +32,21 @@ static void print_scene(uint32_t mode, const char *scene) {
     printf("name, 9 stated: %u\n", (unsigned)kribbelsteen_name(text, len, records, ROOM * KRIBBELSTEEN_RECORD, 9, 1, name));
     printf("finish 3, no links: %u", (unsigned)kribbelsteen_finish(records, ROOM * KRIBBELSTEEN_RECORD, answer[1], 3, 0, finish));
     printf(" %zu %zu\n", finish[0], finish[1]);
+}
+
+static void print_index(const char *scene, size_t entries) {
+    static uint32_t index[KRIBBELSTEEN_INDEX + 1];
+    size_t answer[4], at;
+    uint32_t reason;
+    index[KRIBBELSTEEN_INDEX] = 9;
+    reason = kribbelsteen_read_indexed(KRIBBELSTEEN_NEW, (const uint8_t *)scene, strlen(scene), records, ROOM * KRIBBELSTEEN_RECORD,
+                                       reals, 32, index, entries, answer);
+    printf("indexed=%u place=%zu primitives=%zu reals=%zu looked=%zu\n", (unsigned)reason, answer[0], answer[1], answer[2],
+           answer[3]);
+    for (at = 0; at < entries; at++) {
+        if (index[at] != 0)
+            printf("entry %zu: %u\n", at, (unsigned)index[at]);
+    }
 }
 
 static uint32_t later_records[ROOM * KRIBBELSTEEN_RECORD];
@@ -125,6 +140,9 @@ int main(void) {
     print_scene(KRIBBELSTEEN_NEW, old);
     print_scene(2, old);
     print_scene(KRIBBELSTEEN_ARCHIVE, old);
+    print_index(sample, KRIBBELSTEEN_INDEX + 1);
+    print_index(sample, KRIBBELSTEEN_INDEX - 1);
+    print_index("void", KRIBBELSTEEN_INDEX);
     print_changes(sample, later);
     print_changes(later, sample);
     print_changes(sample, "!");

@@ -81,6 +81,44 @@ fn a_refusal_says_reason_and_place() {
 }
 
 #[test]
+fn a_scene_is_read_with_an_index() {
+    let (mut records, mut reals, mut index) = ([9; RECORD * 6], [9.0; 20], [9; INDEX + 1]);
+    let found = read_indexed(Mode::New, SAMPLE, &mut records, &mut reals, &mut index).expect("well-formed");
+    // Five names are put in, and two modifiers and a target are looked up; no two names have one hash
+    assert_eq!(found, Indexed { counts: Counts { primitives: 5, reals: 17 }, looked: 8 });
+    let mut held: Vec<_> = index.iter().filter(|&&number| number != 0).collect();
+    held.sort();
+    assert_eq!((held, index[INDEX]), (vec![&2, &3, &4, &5], 0));
+    let scene = Scene::read_indexed(Mode::New, SAMPLE, &mut records, &mut reals, &mut index).expect("well-formed");
+    assert_eq!(scene.finish(5), Ok(Finish { material: Some(2), links: 2 }));
+    let (mut plain, mut doubles) = ([7; RECORD * 6], [7.0; 20]);
+    assert_eq!(read(Mode::New, SAMPLE, &mut plain, &mut doubles), Ok(found.counts));
+    assert_eq!((plain, doubles), (records, reals));
+}
+
+#[test]
+fn a_short_index_is_refused() {
+    let (mut records, mut reals, mut index) = ([9; 25], [9.0; 9], [9; INDEX]);
+    let mut refusal = |text: &[u8], entries| {
+        let index = &mut index[..entries];
+        let refusal = read_indexed(Mode::New, text, &mut records, &mut reals, index).expect_err("refused");
+        assert!(records == [0; 25] && reals == [0.0; 9] && index.iter().all(|&entry| entry == 0));
+        (records, reals) = ([9; 25], [9.0; 9]);
+        index.fill(9);
+        refusal
+    };
+    let short = Refusal { reason: Reason::IndexTooSmall, place: 0 };
+    assert_eq!(refusal(b"!", INDEX - 1), short);
+    assert_eq!(refusal(b"", 0), short);
+    assert_eq!(refusal(&[b'#'; MOST_BYTES], INDEX - 1), short);
+    assert_eq!(refusal(&[b'#'; MOST_BYTES + 1], 0), Refusal { reason: Reason::TextTooLong, place: 0 });
+    assert_eq!(refusal(b" !", INDEX), Refusal { reason: Reason::Command, place: 1 });
+    assert_eq!(short.to_string(), "index under 2,048 entries (reason 24), at byte 0");
+    let refused = Scene::read_indexed(Mode::New, SAMPLE, &mut records, &mut reals, &mut index[1..]);
+    assert_eq!(refused.expect_err("an entry is missing"), short);
+}
+
+#[test]
 fn the_archive_reading_accepts_antimatter() {
     let text = b"void antimatter hole 1 void 0 0\nvoid alias slot hole\n";
     let (mut records, mut reals) = ([9; RECORD * 2], [9.0; 1]);
@@ -103,10 +141,10 @@ fn the_archive_reading_accepts_antimatter() {
 
 #[test]
 fn numbers_and_reasons_agree() {
-    for number in (1..=16).filter(|number| *number != 11).chain([28]) {
+    for number in (1..=16).filter(|number| *number != 11).chain([24, 28]) {
         assert_eq!(Reason::from_number(number).map(Reason::number), Some(number));
     }
-    assert_eq!([0, 11, 17].map(Reason::from_number), [None; 3]);
+    assert_eq!([0, 11, 17, 23].map(Reason::from_number), [None; 4]);
     for number in 1..=25 {
         let kind = Type::from_number(number).expect("25 types");
         assert_eq!(kind as u32, number);

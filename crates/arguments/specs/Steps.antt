@@ -82,7 +82,7 @@ realCountStep w room s v = realCounted room s v (countOf w)
 
 -- so many reals are stored, and so many are left after the next
 abbrev pub storedIn : State → (used left : ℕ) → State
-storedIn s u l = record { at = s .at; count = s .count; used = u; left = l; phase = s .phase; draft = s .draft }
+storedIn s u l = record { at = s .at; count = s .count; used = u; left = l; looked = s .looked; phase = s .phase; draft = s .draft }
 
 -- after a real comes the next one, or the statement ends with the last
 abbrev pub realLeft : State → Float → ℕ → Step

@@ -27,14 +27,14 @@ use Rattle.statement.specs.declared.State.{State}
 use Rattle.statement.specs.declared.Opening.the-variants as opening
 use Rattle.scene.specs.Reading as reading
 
-module _ (text : Bytes) (table : List ℕ) (reals : List Float) (room : Settings) (s : State) (I : Inv text table reals room s) where
+module _ (text : Bytes) (table : List ℕ) (reals : List Float) (index : List ℕ) (room : Settings) (s : State) (I : Inv text table reals index room s) where
   abbrev r : Settings
   r = room
 
   pub place : s .at ≡ length (I .done)
   place = ap (λ (z : State). z .at) (I .is) ∙ at-image (I .phase)
     where
-      at-image : (ph : Phase) → image (length (I .done)) (statements (I .above)) ph (I .places) .at ≡ length (I .done)
+      at-image : (ph : Phase) → image (length index) (length (I .done)) (statements (I .above)) ph (I .places) .at ≡ length (I .done)
       at-image idle = refl
       at-image (busy m p) = refl
 
@@ -51,15 +51,15 @@ module _ (text : Bytes) (table : List ℕ) (reals : List Float) (room : Settings
   pub on : (x : Bytes) → run r initial (I .done ++ x) ≡ run r (goingAt (s .at) gap (I .phase) (I .places) (I .above)) x
   on x = run-append r initial (I .done) x ∙ ap (λ (z : reading.State). run r z x) (I .reach ∙ ap (λ (n : ℕ). goingAt n gap (I .phase) (I .places) (I .above)) (sym place))
 
-  pub moved-image : (n : ℕ) → movedTo s n ≡ image n (statements (I .above)) (I .phase) (I .places)
+  pub moved-image : (n : ℕ) → movedTo s n ≡ image (length index) n (statements (I .above)) (I .phase) (I .places)
   moved-image n = ap (λ (z : State). movedTo z n) (I .is) ∙ go (I .phase)
     where
-      go : (ph : Phase) → movedTo (image (length (I .done)) (statements (I .above)) ph (I .places)) n ≡ image n (statements (I .above)) ph (I .places)
+      go : (ph : Phase) → movedTo (image (length index) (length (I .done)) (statements (I .above)) ph (I .places)) n ≡ image (length index) n (statements (I .above)) ph (I .places)
       go idle = refl
       go (busy m p) = refl
 
   -- the same statement, further on
-  further : (x y : Bytes) (n : ℕ) → drop (s .at) (text ++ newline) ≡ x ++ y → n ≡ s .at + length x → run r (goingAt (s .at) gap (I .phase) (I .places) (I .above)) x ≡ goingAt n gap (I .phase) (I .places) (I .above) → Inv text table reals room (movedTo s n)
+  further : (x y : Bytes) (n : ℕ) → drop (s .at) (text ++ newline) ≡ x ++ y → n ≡ s .at + length x → run r (goingAt (s .at) gap (I .phase) (I .places) (I .above)) x ≡ goingAt n gap (I .phase) (I .places) (I .above) → Inv text table reals index room (movedTo s n)
   further x y n e h t =
       let l : n ≡ length (I .done ++ x) = omega (arith, place, length-append (I .done) x) in
       record {
@@ -70,15 +70,16 @@ module _ (text : Bytes) (table : List ℕ) (reals : List Float) (room : Settings
         above = I .above;
         whole = I .whole ∙ ap {B = Bytes} (λ (z : Bytes). I .done ++ z) (ahead ∙ e) ∙ sym (append-assoc (I .done) x y);
         reach = on x ∙ t ∙ ap (λ (n : ℕ). goingAt n gap (I .phase) (I .places) (I .above)) l;
-        is = moved-image n ∙ ap (λ (n : ℕ). image n (statements (I .above)) (I .phase) (I .places)) l;
+        is = moved-image n ∙ ap (λ (n : ℕ). image (length index) n (statements (I .above)) (I .phase) (I .places)) l;
         stored = I .stored;
+        held = I .held;
         doubles = I .doubles;
         settings = I .settings;
         short = I .short;
       }
 
   -- over blanks
-  pub over-blanks : s .at ≤ length text → Inv text table reals room (movedTo s (past isBlank text (s .at)))
+  pub over-blanks : s .at ≤ length text → Inv text table reals index room (movedTo s (past isBlank text (s .at)))
   unfolding run
   over-blanks fits =
       let t : Bytes = drop (s .at) text in
@@ -110,8 +111,8 @@ module _ (text : Bytes) (table : List ℕ) (reals : List Float) (room : Settings
 part-opens : (p : Part) (b : ℕ) → openingOf (phaseOf p) b ≡ opening.Word
 part-opens p b = rw (part-busy p)
 
-module _ (n : ℕ) (d : List Statement) (k : Places) (b : ℕ) where
-  pub opens-word : (ph : Phase) → openingOf (image n d ph k .phase) b ≡ opening.Word → begins ph b ≡ first b
+module _ (size n : ℕ) (d : List Statement) (k : Places) (b : ℕ) where
+  pub opens-word : (ph : Phase) → openingOf (image size n d ph k .phase) b ≡ opening.Word → begins ph b ≡ first b
   unfolding isIdle
   opens-word (busy m p) e = refl
   opens-word idle e = go (eqb b (byte "#")) (eqb b (byte "!")) e
@@ -121,7 +122,7 @@ module _ (n : ℕ) (d : List Statement) (k : Places) (b : ℕ) where
       go false true e = let z : _≡_ {A = ℕ} 0 1 = cc in absurd (omega arith)
       go false false e = refl
 
-  opens-comment : (ph : Phase) → openingOf (image n d ph k .phase) b ≡ opening.Comment → (ph ≡ idle) × (eqb b (byte "#") ≡ true)
+  opens-comment : (ph : Phase) → openingOf (image size n d ph k .phase) b ≡ opening.Comment → (ph ≡ idle) × (eqb b (byte "#") ≡ true)
   unfolding isIdle
   opens-comment (busy m p) e = let q : opening.Word ≡ opening.Comment = sym (part-opens p b) ∙ e in let z : _≡_ {A = ℕ} 0 1 = cc in absurd (omega arith)
   opens-comment idle e = (refl, go (eqb b (byte "#")) (eqb b (byte "!")) e)
@@ -131,7 +132,7 @@ module _ (n : ℕ) (d : List Statement) (k : Places) (b : ℕ) where
       go false true e = let z : _≡_ {A = ℕ} 0 1 = cc in absurd (omega arith)
       go false false e = let z : _≡_ {A = ℕ} 0 1 = cc in absurd (omega arith)
 
-  opens-command : (ph : Phase) → openingOf (image n d ph k .phase) b ≡ opening.Command → (ph ≡ idle) × (begins idle b ≡ command)
+  opens-command : (ph : Phase) → openingOf (image size n d ph k .phase) b ≡ opening.Command → (ph ≡ idle) × (begins idle b ≡ command)
   unfolding isIdle
   opens-command (busy m p) e = let q : opening.Word ≡ opening.Command = sym (part-opens p b) ∙ e in let z : _≡_ {A = ℕ} 0 1 = cc in absurd (omega arith)
   opens-command idle e = (refl, go (eqb b (byte "#")) (eqb b (byte "!")) e)
@@ -143,7 +144,7 @@ module _ (n : ℕ) (d : List Statement) (k : Places) (b : ℕ) where
 
 -- ---- at a byte that is no blank
 
-module _ (text : Bytes) (table : List ℕ) (reals : List Float) (room : Settings) (s : State) (I : Inv text table reals room s) (fits : s .at < length text) (other : isBlank (getD text (s .at) 0) ≡ false) where
+module _ (text : Bytes) (table : List ℕ) (reals : List Float) (index : List ℕ) (room : Settings) (s : State) (I : Inv text table reals index room s) (fits : s .at < length text) (other : isBlank (getD text (s .at) 0) ≡ false) where
   c : ℕ
   c = getD text (s .at) 0
 
@@ -157,10 +158,10 @@ module _ (text : Bytes) (table : List ℕ) (reals : List Float) (room : Settings
   bytes-ahead : drop (s .at) (text ++ newline) ≡ c ∷ (t ++ newline)
   bytes-ahead = drop-append-le (s .at) text newline (omega arith) ∙ ap {B = Bytes} (λ (x : Bytes). x ++ newline) cut
 
-  pub over-comment : openingOf (s .phase) (getD text (s .at) 0) ≡ opening.Comment → Inv text table reals room (movedTo s (past isInLine text (s .at) + 1))
+  pub over-comment : openingOf (s .phase) (getD text (s .at) 0) ≡ opening.Comment → Inv text table reals index room (movedTo s (past isInLine text (s .at) + 1))
   unfolding run isInLine c t
   over-comment op =
-      further text table reals room s I (c ∷ (take n t ++ 10 ∷ [])) (beh .rest) (past isInLine text (s .at) + 1)
+      further text table reals index room s I (c ∷ (take n t ++ 10 ∷ [])) (beh .rest) (past isInLine text (s .at) + 1)
       (bytes-ahead ∙ ap {B = Bytes} (λ (x : Bytes). c ∷ x) (ap {B = Bytes} (λ (x : Bytes). x ++ newline) (sym (take-append-drop n t)) ∙ append-assoc (take n t) (drop n t) newline ∙ ap {B = Bytes} (λ (x : Bytes). take n t ++ x) (beh .split ∙ ap {B = Bytes} (λ (b : ℕ). b ∷ beh .rest) ten) ∙ sym (append-assoc (take n t) (10 ∷ []) (beh .rest))))
       (omega (arith, size, length-append (take n t) (10 ∷ []), shorter))
       (subst (λ (ph : Phase). run room (goingAt (s .at) gap ph (I .places) (I .above)) (c ∷ (take n t ++ 10 ∷ [])) ≡ goingAt (past isInLine text (s .at) + 1) gap ph (I .places) (I .above)) (sym (o .0))
@@ -180,7 +181,7 @@ module _ (text : Bytes) (table : List ℕ) (reals : List Float) (room : Settings
       ten = eqb-true (beh .first) 10 (not-false (eqb (beh .first) 10) (beh .fails))
 
       o : (I .phase ≡ idle) × (eqb c (byte "#") ≡ true)
-      o = opens-comment (length (I .done)) (statements (I .above)) (I .places) c (I .phase) (ap (λ (z : State). openingOf (z .phase) c) (sym (I .is)) ∙ op)
+      o = opens-comment (length index) (length (I .done)) (statements (I .above)) (I .places) c (I .phase) (ap (λ (z : State). openingOf (z .phase) c) (sym (I .is)) ∙ op)
 
       size : past isInLine text (s .at) ≡ s .at + suc n
       size = past-run isInLine text (s .at) (omega arith) ∙ ap (λ (n : ℕ). s .at + n) (ap (longest isInLine) cut ∙ run-more isInLine c t (ap (λ (x : ℕ). isInLine x) (eqb-true c (byte "#") (o .1))))
@@ -191,10 +192,10 @@ module _ (text : Bytes) (table : List ℕ) (reals : List Float) (room : Settings
   pub at-command : openingOf (s .phase) (getD text (s .at) 0) ≡ opening.Command → result text room ≡ refused 4 (s .at)
   unfolding run c t
   at-command op =
-      ap (finish (length text)) (ap (run room initial) (I .whole) ∙ on text table reals room s I (I .rest) ∙ ap (run room (goingAt (s .at) gap (I .phase) (I .places) (I .above))) (ahead text table reals room s I ∙ bytes-ahead) ∙
+      ap (finish (length text)) (ap (run room initial) (I .whole) ∙ on text table reals index room s I (I .rest) ∙ ap (run room (goingAt (s .at) gap (I .phase) (I .places) (I .above))) (ahead text table reals index room s I ∙ bytes-ahead) ∙
       ap (λ (ph : Phase). run room (goingAt (s .at) gap ph (I .places) (I .above)) (c ∷ (t ++ newline))) (o .0) ∙
       (λ i. run room (advance room (record { at = s .at; scan = gap; phase = idle; places = I .places; above = I .above }) (cond (other i) (keep gap) (o .1 i))) (t ++ newline)) ∙
       run-stopped room 4 (s .at) (t ++ newline))
     where
       o : (I .phase ≡ idle) × (begins idle c ≡ command)
-      o = opens-command (length (I .done)) (statements (I .above)) (I .places) c (I .phase) (ap (λ (z : State). openingOf (z .phase) c) (sym (I .is)) ∙ op)
+      o = opens-command (length index) (length (I .done)) (statements (I .above)) (I .places) c (I .phase) (ap (λ (z : State). openingOf (z .phase) c) (sym (I .is)) ∙ op)

@@ -1,46 +1,50 @@
 -- What the code may rely on between two words and at a word, and what its step comes to.
+use mathlib.Core.Bool.{Bool, true, false, not, cond}
 use mathlib.Core.List.{List, [], _∷_, _++_}
 use mathlib.Core.Path.{_≡_, refl, ap, sym, _∙_, subst}
 use Prim.Native.Nat.{ℕ, suc, _+_, _-_, _*_, _/_, _≤_, _<_, min}
 use native.Mathlib.Nat.{add-zero}
-use native.Mathlib.Numerals.{add-one}
 use native.Mathlib.Omega.{arith}
+use borrow.Author.Tests.{lt-leb}
 use lib.Ieee.{Float}
 use lib.ListN.{length, length-append, set, replicate}
 use lib.Seq.{set-at, append-snoc}
 use Rattle.driver.proofs.MoveLaws.{moved-image}
-use Rattle.driver.proofs.StepLaws.{Sees, follows}
+use Rattle.driver.proofs.StepLaws.{Sees, follows, taking}
 use Rattle.driver.proofs.WordLaws.{done, comes, word-fits, word-length, reached, all-there}
 use Rattle.driver.specs.Goes.{Goes, Done, wordEnded, On, Stepped}
-use Rattle.driver.specs.Image.{partReals, openReals, image, phaseOf}
-use Rattle.driver.specs.Invariant.{AtWord, Inv}
-use Rattle.laws.specs.Bytes.{part, Bytes}
+use Rattle.driver.specs.Image.{drafted, image, leftOf, openReals, partReals, phaseOf}
+use Rattle.driver.specs.Invariant.{AtWord, Entered, Inv}
+use Rattle.laws.specs.Bytes.{Bytes, part, same}
 use Rattle.lexer.specs.Word.{wordFault}
-use Rattle.linker.proofs.EnteredLaws.{enters}
-use Rattle.linker.proofs.SeenLaws.{FoundAs, breach-is, found-as}
-use Rattle.linker.proofs.TableLaws.{latest-in-le, looked-le}
-use Rattle.linker.specs.Entered.{enteredIn}
-use Rattle.linker.specs.Seen.{back, clipped, isLookedUp, lookedFor, seenIn, draftIn, seenBy}
-use Rattle.lookup.proofs.LookupLaws.{search-latest}
-use Rattle.lookup.specs.Lookup.{latestIn}
+use Rattle.context.proofs.SeenLaws.{FoundAs, breach-is, found-as}
+use Rattle.context.specs.Seen.{back, draftIn, isLookedUp, lookedFor, seenBy, seenIn}
+use Rattle.index.proofs.TableLaws.{finds-looked, finds-number}
+use Rattle.index.specs.Lent.{countOpen, lent, lookedBy, tally}
+use Rattle.index.specs.Searches.{sought}
+use Rattle.index.specs.declared.Found.{Found}
+use Rattle.laws.proofs.BoolLaws.{cond-elim}
+use Rattle.linker.proofs.EnteredLaws.{counts, enters, indexes}
+use Rattle.linker.specs.Entered.{behindIn, earlierIn}
 use Rattle.parser.specs.Steps.{stepOf}
 use Rattle.scene.proofs.AcceptLaws.{going-sound}
 use Rattle.scene.proofs.PlaceLaws.{all-on, AllRead, all-read}
 use Rattle.scene.proofs.RiseLaws.{names-rise}
 use Rattle.scene.proofs.RoomLaws.{fit-forth, room-inv}
-use Rattle.scene.proofs.SwapLaws.{Linked}
+use Rattle.scene.proofs.SwapLaws.{Linked, latest-le}
 use Rattle.scene.proofs.SyntaxLaws.{AtPhase, Sound}
-use Rattle.scene.proofs.TellsLaws.{reals-length, statements-length, numbers-length, reals-count}
+use Rattle.scene.proofs.TellsLaws.{reals-length, numbers-length, reals-count}
 use Rattle.scene.specs.HouseRules.{zeroReal}
-use Rattle.scene.specs.Links.{realsIn, realsUsed, latest}
-use Rattle.scene.specs.Phase.{atType, atRealCount, Phase, atStringCount, atString, atName, idle, atTarget, atReal, atIntegerCount, atAliasName, busy}
+use Rattle.scene.specs.Links.{gives, latest, modifierLink, realsIn, realsUsed}
+use Rattle.scene.specs.Phase.{Part, atType, atRealCount, Phase, atStringCount, atString, atName, idle, atTarget, atReal, atIntegerCount, atAliasName, busy}
 use Rattle.scene.specs.Reading.{run, gap, Entry, initial, Going, statements, going, newline}
 use Rattle.scene.specs.Record.{realTable, width, filled, records, flat}
-use Rattle.scene.specs.Statement.{numbers, Statement}
+use Rattle.scene.specs.Statement.{Statement, numbers, void}
 use Rattle.scene.specs.declared.Settings.{Settings}
-use Rattle.statement.specs.States.{movedTo}
+use Rattle.statement.specs.States.{between, clipped, countedIn, movedTo}
 use Rattle.statement.specs.declared.Seen.{Seen}
 use Rattle.statement.specs.declared.State.{State}
+use Rattle.statement.specs.declared.Phase.the-variants as is
 
 -- ---- from the definition's state
 
@@ -72,7 +76,7 @@ more-real l D x n u d q h =
 
 -- ---- between two words
 
-module _ (text : Bytes) (table : List ℕ) (reals : List Float) (room : Settings) (s : State) (I : Inv text table reals room s) where
+module _ (text : Bytes) (table : List ℕ) (reals : List Float) (index : List ℕ) (room : Settings) (s : State) (I : Inv text table reals index room s) where
   abbrev here : Going
   here = record { at = length (I .done); scan = gap; phase = I .phase; places = I .places; above = I .above }
 
@@ -91,7 +95,7 @@ module _ (text : Bytes) (table : List ℕ) (reals : List Float) (room : Settings
   all-stands : AllRead (text ++ newline) (I .above)
   all-stands = subst (λ (z : Bytes). AllRead z (I .above)) (sym (I .whole)) (all-on (I .rest) (I .done) (I .above) (all-read room (I .done) here (I .reach)))
 
-  count-few : length (statements (I .above)) ≤ 1024
+  pub count-few : length (statements (I .above)) ≤ 1024
   count-few = omega (arith, fit .1, records-room)
 
   -- as many rows as the table has
@@ -101,14 +105,14 @@ module _ (text : Bytes) (table : List ℕ) (reals : List Float) (room : Settings
   pub count-is : s .count ≡ length (statements (I .above))
   count-is = ap (λ (z : State). z .count) (I .is) ∙ go (I .phase)
     where
-      go : (ph : Phase) → image (length (I .done)) (statements (I .above)) ph (I .places) .count ≡ length (statements (I .above))
+      go : (ph : Phase) → image (length index) (length (I .done)) (statements (I .above)) ph (I .places) .count ≡ length (statements (I .above))
       go idle = refl
       go (busy m p) = refl
 
   used-is : s .used ≡ realsUsed (statements (I .above)) + length (openReals (I .phase))
   used-is = ap (λ (z : State). z .used) (I .is) ∙ go (I .phase)
     where
-      go : (ph : Phase) → image (length (I .done)) (statements (I .above)) ph (I .places) .used ≡ realsUsed (statements (I .above)) + length (openReals ph)
+      go : (ph : Phase) → image (length index) (length (I .done)) (statements (I .above)) ph (I .places) .used ≡ realsUsed (statements (I .above)) + length (openReals ph)
       go idle = sym (add-zero (realsUsed (statements (I .above))))
       go (busy m p) = refl
 
@@ -118,13 +122,10 @@ module _ (text : Bytes) (table : List ℕ) (reals : List Float) (room : Settings
   used-room : (s .used ≤ length reals) × (s .used ≤ 4096)
   used-room = (omega (arith, used-is, room-at room (statements (I .above)) (I .phase) at-phase, reals-room), omega (arith, used-is, room-at room (statements (I .above)) (I .phase) at-phase, reals-room))
 
-  finds : (w : Bytes) → latestIn text table w (s .count) ≡ latest w (statements (I .above))
-  finds w = (λ i. latestIn text (I .stored i) w ((count-is ∙ statements-length (I .above)) i)) ∙ search-latest text (I .above) (length table) all-stands w
-
 -- ---- at a word
 
-module _ (text : Bytes) (table : List ℕ) (reals : List Float) (room : Settings) (s : State) (len : ℕ) (W : AtWord text table reals room s len) where
-  abbrev I : Inv text table reals room s
+module _ (text : Bytes) (table : List ℕ) (reals : List Float) (index : List ℕ) (room : Settings) (s : State) (len : ℕ) (W : AtWord text table reals index room s len) where
+  abbrev I : Inv text table reals index room s
   I = W .inv
 
   abbrev es : List Entry
@@ -136,108 +137,174 @@ module _ (text : Bytes) (table : List ℕ) (reals : List Float) (room : Settings
   abbrev w : Bytes
   w = part text (s .at) len
 
-  abbrev X : ℕ
-  X = latestIn text table w (length d)
+  -- the search for the word
+  abbrev X : Found
+  X = sought text table index (length d) w
 
-  finds-here : X ≡ latest w d
-  finds-here = ap (latestIn text table w) (sym (count-is text table reals room s I)) ∙ finds text table reals room s I w
+  finds-here : X .number ≡ latest w d
+  finds-here = finds-number text table index es (I .stored) (all-stands text table reals index room s I) (omega (arith, count-few text table reals index room s I)) (I .held) (length d) (in-rows text table reals index room s I) w
 
-  looked : (latest w d ≡ X) × FoundAs es w (draftIn table X) X
-  looked = (sym finds-here, found-as text table es (I .stored) w X finds-here)
+  looks-here : X .looked ≡ lookedBy (length index) w d
+  looks-here = finds-looked text table index es (I .stored) (all-stands text table reals index room s I) (omega (arith, count-few text table reals index room s I)) (I .held) (length d) (in-rows text table reals index room s I) w
+
+  known : (x : ℕ) → x ≡ X .number → (latest w d ≡ x) × FoundAs es w (draftIn table x) x
+  known x g = let e = g ∙ finds-here in (sym e, found-as text table es (I .stored) w x e)
+
+  -- the state behind the word, in a phase
+  abbrev behind : Phase → State
+  behind ph = image (length index) (suc (s .at + length w)) d ph (I .places)
+
+  -- the reals stored then
+  abbrev stored : Phase → ℕ
+  stored ph = realsUsed d + length (openReals ph)
 
   -- as the code's values stand when the phase is ph
-  sees : (ph : Phase) → ph ≡ I .phase → (f : ℕ) → f ≡ lookedFor (image (suc (s .at + len)) d ph (I .places) .phase) X
-      → Sees room es (I .places) (s .at) w (realsUsed d + length (openReals ph)) f (draftIn table f) (back reals (realsUsed d + length (openReals ph)) 1) (back reals (realsUsed d + length (openReals ph)) 2) ph
+  sees : (ph : Phase) → ph ≡ I .phase → (f j : ℕ) → f ≡ lookedFor (behind ph .phase) w (X .number)
+      → Sees (length index) room es (I .places) (s .at) w (stored ph) f j (draftIn table f) (back reals (stored ph) 1) (back reals (stored ph) 2) ph
   unfolding isLookedUp
-  sees idle q f g = subst (λ (x : ℕ). (latest w d ≡ x) × FoundAs es w (draftIn table x) x) (sym g) looked
-  sees (busy m atType) q f g = tt
-  sees (busy m (atName t)) q f g = tt
-  sees (busy m (atStringCount t n)) q f g = tt
-  sees (busy m (atString t n ss j)) q f g = tt
-  sees (busy m (atIntegerCount t n ss)) q f g = tt
-  sees (busy m (atRealCount t n ss)) q f g = add-zero (realsUsed d)
-  sees (busy m (atReal t n ss rs j)) q f g = (
+  sees idle q f j g = λ h. known f (g ∙ ap (λ (b : Bool). cond (not b) (X .number) 0) h)
+  sees (busy m atType) q f j g = tt
+  sees (busy m (atName t)) q f j g = tt
+  sees (busy m (atStringCount t n)) q f j g = tt
+  sees (busy m (atString t n ss i)) q f j g = tt
+  sees (busy m (atIntegerCount t n ss)) q f j g = tt
+  sees (busy m (atRealCount t n ss)) q f j g = add-zero (realsUsed d)
+  sees (busy m (atReal t n ss rs i)) q f j g = (
     room-left,
     λ x.
-        let l : length rs + suc j - j ≡ suc (length (numbers rs)) = omega (arith, numbers-length rs) in
-        breach-is reals (realTable es) (numbers rs) (I .doubles ∙ ap (λ (z : Phase). filled zeroReal (length reals) (realTable es ++ openReals z)) (sym q)) (realsUsed d + length (numbers rs)) (ap (λ (n : ℕ). n + length (numbers rs)) (sym (reals-length d))) t x (length rs + suc j - j) l,
+        let l : length rs + suc i - i ≡ suc (length (numbers rs)) = omega (arith, numbers-length rs) in
+        breach-is reals (realTable es) (numbers rs) (I .doubles ∙ ap (λ (z : Phase). filled zeroReal (length reals) (realTable es ++ openReals z)) (sym q)) (realsUsed d + length (numbers rs)) (ap (λ (n : ℕ). n + length (numbers rs)) (sym (reals-length d))) t x (length rs + suc i - i) l,
   )
     where
       room-left : realsUsed d + length (numbers rs) < room .reals
-      room-left = let h = subst (AtPhase room d) (sym q) (at-phase text table reals room s I) in omega (arith, room-inv (realsUsed d + (length rs + suc j)) (room .reals) (h .2), numbers-length rs)
-  sees (busy m atAliasName) q f g = tt
-  sees (busy m (atTarget n)) q f g = subst (λ (x : ℕ). (latest w d ≡ x) × FoundAs es w (draftIn table x) x) (sym g) looked
+      room-left = let h = subst (AtPhase room d) (sym q) (at-phase text table reals index room s I) in omega (arith, room-inv (realsUsed d + (length rs + suc i)) (room .reals) (h .2), numbers-length rs)
+  sees (busy m atAliasName) q f j g = tt
+  sees (busy m (atTarget n)) q f j g = known f g
 
-  -- what is seen of a word of n bytes, u reals stored and f looked up, before its numbers are clipped
-  abbrev plain : (n u f : ℕ) → Seen
-  plain n u f = record { place = s .at; name = s .at; size = n; used = u; found = f; source = draftIn table f; previous = back reals u 1; first = back reals u 2 }
+  -- what is seen of a word, u reals stored, f looked up and j entries looked at, before its numbers are clipped
+  abbrev plain : (u f j : ℕ) → Seen
+  plain u f j = record { place = s .at; name = s .at; size = length w; used = u; found = f; looked = j; source = draftIn table f; previous = back reals u 1; first = back reals u 2 }
 
   small : (n : ℕ) → n ≤ 65536 → n ≡ clipped n
   small n h = omega arith
 
-  plain-seen : (u f : ℕ) → u ≤ 4096 → f ≤ 1024 → plain (length w) u f ≡ seenBy table reals (s .at) (length w) u f
-  plain-seen u f hu hf =
-      let e = word-fits text table reals room s len W in
+  plain-seen : (u f j : ℕ) → u ≤ 4096 → f ≤ 1024 → plain u f j ≡ seenBy table reals (s .at) (length w) u f j
+  plain-seen u f j hu hf =
+      let e = word-fits text table reals index room s len W in
       let short = I .short in
-      let l = word-length text table reals room s len W in
-      λ i. record { place = s .at; name = small (s .at) (omega arith) i; size = small (length w) (omega arith) i; used = small u (omega arith) i; found = small f (omega arith) i; source = draftIn table f; previous = back reals u 1; first = back reals u 2 }
+      let l = word-length text table reals index room s len W in
+      λ i. record { place = s .at; name = small (s .at) (omega arith) i; size = small (length w) (omega arith) i; used = small u (omega arith) i; found = small f (omega arith) i; looked = j; source = draftIn table f; previous = back reals u 1; first = back reals u 2 }
 
-  -- what the step says of it
-  abbrev Steps : ℕ → Phase → Seen → Type 0
-  Steps n ph v = Goes (suc (s .at + n)) es ph (wordEnded room (s .at) w ph (I .places) es) (stepOf (image (suc (s .at + n)) d ph (I .places) .phase) w room (image (suc (s .at + n)) d ph (I .places)) v)
+  -- the state that the step is taken from
+  abbrev from : (f j : ℕ) → Phase → State
+  from f j ph = taking (length index) room es (I .places) (s .at) w (stored ph) f j (draftIn table f) (back reals (stored ph) 1) (back reals (stored ph) 2) ph
 
-  steps : wordFault w ≡ 0 → (ph : Phase) → ph ≡ I .phase → (u : ℕ) → u ≡ realsUsed d + length (openReals ph) → (f : ℕ) → f ≡ lookedFor (image (suc (s .at + len)) d ph (I .places) .phase) X → Steps len ph (seenBy table reals (s .at) (length w) u f)
-  steps fine ph q u v f g =
-      subst (λ (n : ℕ). Steps n ph (seenBy table reals (s .at) (length w) u f)) (word-length text table reals room s len W)
-      (subst (Steps (length w) ph) (plain-seen u f (omega (arith, v, ap (λ (z : Phase). length (openReals z)) q, used-is text table reals room s I, used-room text table reals room s I .1)) few)
-      (subst (λ (u : ℕ). Steps (length w) ph (plain (length w) u f)) (sym v)
-      (follows room es (I .places) (s .at) w (realsUsed d + length (openReals ph)) f (draftIn table f) (back reals (realsUsed d + length (openReals ph)) 1) (back reals (realsUsed d + length (openReals ph)) 2) ph (sees ph q f g) fine)))
+  -- what the step from t says of it
+  abbrev Steps : Phase → State → Seen → Type 0
+  Steps ph t v = Goes (length index) (suc (s .at + length w)) es ph (wordEnded room (s .at) w ph (I .places) es) (stepOf (t .phase) w room t v)
+
+  steps : wordFault w ≡ 0 → (ph : Phase) → ph ≡ I .phase → (u : ℕ) → u ≡ stored ph → (f j : ℕ) → f ≡ lookedFor (behind ph .phase) w (X .number) → Steps ph (from f j ph) (seenBy table reals (s .at) (length w) u f j)
+  steps fine ph q u v f j g =
+      subst (Steps ph (from f j ph)) (plain-seen u f j (omega (arith, v, ap (λ (z : Phase). length (openReals z)) q, used-is text table reals index room s I, used-room text table reals index room s I .1)) few)
+      (subst (λ (u : ℕ). Steps ph (from f j ph) (plain u f j)) (sym v)
+      (follows (length index) room es (I .places) (s .at) w (stored ph) f j (draftIn table f) (back reals (stored ph) 1) (back reals (stored ph) 2) ph (sees ph q f j g) fine))
     where
       few : f ≤ 1024
-      few = omega (arith, g, looked-le (image (suc (s .at + len)) d ph (I .places) .phase) X (length d) (latest-in-le text table w (length d)), count-few text table reals room s I)
+      few = omega (arith, g, cond-elim (λ n. n ≤ 1024) (isLookedUp (behind ph .phase) w) {x = X .number} {y = 0} (omega (arith, finds-here, latest-le w d, count-few text table reals index room s I)) (omega arith))
 
-  rows-is : latestIn text table w (min (length d) (length table / width)) ≡ X
-  rows-is = ap (latestIn text table w) (in-rows text table reals room s I)
-
-  pub steps-as : wordFault w ≡ 0 → Stepped text table reals room s len (stepOf (s .phase) w room (movedTo s (s .at + len + 1)) (seenIn text table reals (movedTo s (s .at + len + 1)) (s .at) w))
-  unfolding isLookedUp
-  steps-as fine = record { stands = W; goes = subst (λ (t : State). Goes (suc (s .at + len)) es (I .phase) (wordEnded room (s .at) w (I .phase) (I .places) es) (stepOf (t .phase) w room t (seenIn text table reals t (s .at) w))) (sym (ap (movedTo s) (add-one (s .at + len)) ∙ moved-image text table reals room s I (suc (s .at + len)))) (go (I .phase) refl) }
+  -- only a modifier's and an alias target's look-up changes the count
+  stays : (m : Bytes) (p : Part) → isLookedUp (phaseOf p) w ≡ false → countedIn (behind (busy m p)) (lookedFor (phaseOf p) w (X .looked)) ≡ behind (busy m p)
+  stays m p e = λ i. record { at = suc (s .at + length w); count = length d; used = realsUsed d + length (partReals p); left = leftOf p; looked = (ap (λ (b : Bool). clipped (countOpen (length index) (tally (length index) d) m d + cond b (X .looked) 0)) e ∙ again (tally (length index) d + cond (same m void) 0 (lookedBy (length index) m d))) i; phase = phaseOf p; draft = drafted (modifierLink m d) (I .places .name) (I .places .string) (realsUsed d) p }
     where
-      go : (ph : Phase) → ph ≡ I .phase → Steps len ph (seenIn text table reals (image (suc (s .at + len)) d ph (I .places)) (s .at) w)
-      go idle q = steps fine idle q (realsUsed d) (sym (add-zero (realsUsed d))) _ rows-is
-      go (busy m p) q = steps fine (busy m p) q (realsUsed d + length (partReals p)) refl _ (ap (lookedFor (phaseOf p)) rows-is)
+      again : (n : ℕ) → clipped (clipped n + 0) ≡ clipped n
+      again n = omega arith
+
+  counts-as : (f j : ℕ) (ph : Phase) → countedIn (behind ph) (lookedFor (behind ph .phase) w (X .looked)) ≡ from f j ph
+  unfolding isLookedUp
+  counts-as f j idle = λ i. between (suc (s .at + length w)) (length d) (realsUsed d) (clipped (tally (length index) d + (turned (same w void) ∙ ap (cond (same w void) 0) looks-here) i))
+    where
+      turned : (b : Bool) → cond (not b) (X .looked) 0 ≡ cond b 0 (X .looked)
+      turned true = refl
+      turned false = refl
+  counts-as f j (busy m atType) = stays m atType refl
+  counts-as f j (busy m (atName t)) = stays m (atName t) refl
+  counts-as f j (busy m (atStringCount t n)) = stays m (atStringCount t n) refl
+  counts-as f j (busy m (atString t n [] i)) = stays m (atString t n [] i) refl
+  counts-as f j (busy m (atString t n (x ∷ ss) i)) = stays m (atString t n (x ∷ ss) i) refl
+  counts-as f j (busy m (atIntegerCount t n ss)) = stays m (atIntegerCount t n ss) refl
+  counts-as f j (busy m (atRealCount t n ss)) = stays m (atRealCount t n ss) refl
+  counts-as f j (busy m (atReal t n ss rs i)) = stays m (atReal t n ss rs i) refl
+  counts-as f j (busy m atAliasName) = stays m atAliasName refl
+  counts-as f j (busy m (atTarget n)) = λ i. record { at = suc (s .at + length w); count = length d; used = realsUsed d + 0; left = 0; looked = clipped (countOpen (length index) (tally (length index) d) m d + looks-here i); phase = is.Target; draft = drafted (modifierLink m d) (I .places .name) (I .places .string) (realsUsed d) (atTarget n) }
+
+  -- what the look-up in a phase comes to: a number, and entries looked at
+  abbrev found : Phase → ℕ
+  found ph = lookedFor (behind ph .phase) w (X .number)
+
+  abbrev seen : Phase → ℕ
+  seen ph = lookedFor (behind ph .phase) w (X .looked)
+
+  -- the step that the code takes from t
+  abbrev Taken : Phase → State → Type 0
+  Taken ph t = Steps ph (countedIn t (seenIn text table reals index t (s .at) w .looked)) (seenIn text table reals index t (s .at) w)
+
+  taken-here : wordFault w ≡ 0 → (ph : Phase) → ph ≡ I .phase → Taken ph (behind ph)
+  taken-here fine idle q = subst (λ (t : State). Steps idle t (seenIn text table reals index (behind idle) (s .at) w)) (sym (counts-as (found idle) (seen idle) idle)) (steps fine idle q (realsUsed d) (sym (add-zero (realsUsed d))) (found idle) (seen idle) refl)
+  taken-here fine (busy m p) q = subst (λ (t : State). Steps (busy m p) t (seenIn text table reals index (behind (busy m p)) (s .at) w)) (sym (counts-as (found (busy m p)) (seen (busy m p)) (busy m p))) (steps fine (busy m p) q (realsUsed d + length (partReals p)) refl (found (busy m p)) (seen (busy m p)) refl)
+
+  pub steps-as : wordFault w ≡ 0 → Stepped text table reals index room s len (stepOf (s .phase) w room (countedIn (movedTo s (s .at + len + 1)) (seenIn text table reals index (movedTo s (s .at + len + 1)) (s .at) w .looked)) (seenIn text table reals index (movedTo s (s .at + len + 1)) (s .at) w))
+  steps-as fine =
+      let e = word-length text table reals index room s len W in
+      let t : movedTo s (s .at + len + 1) ≡ behind (I .phase) = (let n : s .at + len + 1 ≡ suc (s .at + length w) = omega arith in ap (movedTo s) n) ∙ moved-image text table reals index room s I (suc (s .at + length w)) in
+      record {
+        stands = W;
+        goes = subst (λ (n : ℕ). Goes (length index) (suc (s .at + n)) es (I .phase) (wordEnded room (s .at) w (I .phase) (I .places) es) (stepOf (s .phase) w room (countedIn (movedTo s (s .at + len + 1)) (seenIn text table reals index (movedTo s (s .at + len + 1)) (s .at) w .looked)) (seenIn text table reals index (movedTo s (s .at + len + 1)) (s .at) w))) e (subst (Taken (I .phase)) (sym t) (taken-here fine (I .phase) refl));
+      }
 
   -- a real is stored
-  pub stores : (s′ : State) (x : Float) → On (suc (s .at + len)) es (I .phase) (reached text table reals room s len W) s′ (x ∷ []) → s .used < length reals
-  stores s′ x N = omega (arith, used-is text table reals room s I, room-at room d (N .phase) later, reals-room text table reals room s I, ap length (N .reals), length-append (openReals (I .phase)) (x ∷ []))
+  pub stores : (s′ : State) (x : Float) → On (length index) (suc (s .at + len)) es (I .phase) (reached text table reals index room s len W) s′ (x ∷ []) → s .used < length reals
+  stores s′ x N = omega (arith, used-is text table reals index room s I, room-at room d (N .phase) later, reals-room text table reals index room s I, ap length (N .reals), length-append (openReals (I .phase)) (x ∷ []))
     where
       later : AtPhase room d (N .phase)
-      later = going-sound room (done text table reals room s len W) (record { at = suc (s .at + len); scan = gap; phase = N .phase; places = N .places; above = es }) (comes text table reals room s len W ∙ N .goes)
+      later = going-sound room (done text table reals index room s len W) (record { at = suc (s .at + len); scan = gap; phase = N .phase; places = N .places; above = es }) (comes text table reals index room s len W ∙ N .goes)
 
   -- a statement is complete
-  module _ (s′ : State) (xs : List Float) (N : Done (suc (s .at + len)) es (I .phase) (reached text table reals room s len W) s′ xs) where
+  module _ (s′ : State) (xs : List Float) (N : Done (length index) (suc (s .at + len)) es (I .phase) (reached text table reals index room s len W) s′ xs) where
     abbrev g : Going
     g = record { at = suc (s .at + len); scan = gap; phase = idle; places = N .places; above = N .entry ∷ es }
 
-    came : run room initial (done text table reals room s len W) ≡ going g
-    came = comes text table reals room s len W ∙ N .goes
+    came : run room initial (done text table reals index room s len W) ≡ going g
+    came = comes text table reals index room s len W ∙ N .goes
 
     later : Linked (statements (N .entry ∷ es)) × (length (statements (N .entry ∷ es)) ≤ room .records) × (realsUsed (statements (N .entry ∷ es)) ≤ room .reals)
-    later = fit-forth room (statements (N .entry ∷ es)) (going-sound room (done text table reals room s len W) g came)
+    later = fit-forth room (statements (N .entry ∷ es)) (going-sound room (done text table reals index room s len W) g came)
 
     all-later : AllRead (text ++ newline) (N .entry ∷ es)
-    all-later = all-there text table reals room s len W (N .entry ∷ es) (all-read room (done text table reals room s len W) g came)
+    all-later = all-there text table reals index room s len W (N .entry ∷ es) (all-read room (done text table reals index room s len W) g came)
 
     pub stores-last : realsUsed d + length (realsIn (N .entry .statement .body)) ≤ length reals
     unfolding statements realsUsed
-    stores-last = omega (arith, later .2, reals-room text table reals room s I, reals-count (N .entry .statement .body))
+    stores-last = omega (arith, later .2, reals-room text table reals index room s I, reals-count (N .entry .statement .body))
 
     count-room : (length d * width + width ≤ length table) × (length d ≤ 1023)
     unfolding statements
-    count-room = let f = later .1 in (omega (arith, records-room text table reals room s I), omega (arith, records-room text table reals room s I))
+    count-room = let f = later .1 in (omega (arith, records-room text table reals index room s I), omega (arith, records-room text table reals index room s I))
 
-    pub count-fits : s′ .count ≤ 1024
-    count-fits = omega (arith, N .count, count-room .1)
+    abbrev own : Statement
+    own = N .entry .statement
 
-    pub entered : enteredIn text table (s′ .count) (s′ .draft) ≡ filled 0 (length table) (flat text (records (N .entry ∷ es)))
-    entered = enters text table (N .entry) es (s′ .draft) (I .stored) all-later (N .own) (names-rise room (done text table reals room s len W) g came .0) (I .short) (s′ .count) (N .count) count-fits (omega (arith, N .count, count-room .0))
+    -- its record, its number in the index and the entries looked at are those of one statement more
+    pub entered : (T X′ : List ℕ) (t′ : State) → Entered text table index s′ T X′ t′
+        → (T ≡ filled 0 (length table) (flat text (records (N .entry ∷ es)))) × (X′ ≡ lent (length index) (statements (N .entry ∷ es))) × (t′ ≡ between (s′ .at) (s′ .count + 1) (s′ .used) (tally (length index) (statements (N .entry ∷ es))))
+    unfolding behindIn statements tally
+    entered T X′ t′ E =
+        let few : s′ .count ≤ 1024 = omega (arith, N .count, count-room .1) in
+        let fits : s′ .count * width + width ≤ length table = omega (arith, N .count, count-room .0) in
+        let rows = length table / width in
+        let k : earlierIn text table index (s′ .count) (s′ .draft) .looked ≡ cond (gives own) (lookedBy (length index) (own .name) d) 0 = counts text table index (N .entry) es (s′ .draft) (I .stored) (I .held) all-later (N .own) (s′ .count) (N .count) few fits in (
+          E .stored ∙ enters text table index (N .entry) es (s′ .draft) (I .stored) (I .held) all-later (N .own) (s′ .count) (N .count) few fits (names-rise room (done text table reals index room s len W) g came .0) (I .short),
+          E .held ∙ indexes text table index (N .entry) es (s′ .draft) (I .stored) (I .held) all-later (N .own) (s′ .count) (N .count) few fits,
+          E .state
+              ∙ ap (λ (b : Bool). cond b (between (s′ .at) (s′ .count) (s′ .used) (s′ .looked)) (between (s′ .at) (s′ .count + 1) (s′ .used) (clipped (s′ .looked + earlierIn text table index (s′ .count) (s′ .draft) .looked)))) (lt-leb rows (s′ .count) (omega arith))
+              ∙ (λ i. between (s′ .at) (s′ .count + 1) (s′ .used) (clipped (N .looked i + k i))),
+        )

@@ -12,6 +12,7 @@ use Rattle.driver.proofs.MoveLaws.{ahead, place, opens-word, on}
 use Rattle.driver.specs.Goes.{wordEnded, On, Done}
 use Rattle.driver.specs.Image.{image, openReals}
 use Rattle.driver.specs.Invariant.{AtWord, Inv, result}
+use Rattle.index.specs.Lent.{lent, tally}
 use Rattle.laws.proofs.RunLaws.{run-all, Behind, run-length, run-more, behind-run}
 use Rattle.laws.specs.Bytes.{Bytes, part}
 use Rattle.laws.specs.Runs.{all, run as longest}
@@ -44,8 +45,8 @@ pub record Word (text : Bytes) (r : Settings) (n len : ℕ) (ph : Phase) (k : Pl
   pub size : suc (n + len) ≡ n + length x
   pub runs : run r (goingAt n gap ph k es) x ≡ wordEnded r n (part text n len) ph k es
 
-module _ (text : Bytes) (table : List ℕ) (reals : List Float) (room : Settings) (s : State) (len : ℕ) (W : AtWord text table reals room s len) where
-  abbrev I : Inv text table reals room s
+module _ (text : Bytes) (table : List ℕ) (reals : List Float) (index : List ℕ) (room : Settings) (s : State) (len : ℕ) (W : AtWord text table reals index room s len) where
+  abbrev I : Inv text table reals index room s
   I = W .inv
 
   abbrev w : Bytes
@@ -91,7 +92,7 @@ module _ (text : Bytes) (table : List ℕ) (reals : List Float) (room : Settings
       begun = (λ i. take (W .size i) rest) ∙ (λ i. take (longest isOther (cut i)) (cut i)) ∙ ap (λ (n : ℕ). take n (c ∷ t)) (run-more isOther c t (ap not (W .other)))
 
       opens : begins (I .phase) c ≡ first c
-      opens = opens-word (length (I .done)) (statements (I .above)) (I .places) c (I .phase) (ap (λ (z : State). openingOf (z .phase) c) (sym (I .is)) ∙ W .opens)
+      opens = opens-word (length index) (length (I .done)) (statements (I .above)) (I .places) c (I .phase) (ap (λ (z : State). openingOf (z .phase) c) (sym (I .is)) ∙ W .opens)
 
   abbrev pub reached : reading.State
   reached = wordEnded room (s .at) w (I .phase) (I .places) (I .above)
@@ -100,13 +101,13 @@ module _ (text : Bytes) (table : List ℕ) (reals : List Float) (room : Settings
   done = I .done ++ reads .x
 
   pub comes : run room initial done ≡ reached
-  comes = on text table reals room s I (reads .x) ∙ reads .runs
+  comes = on text table reals index room s I (reads .x) ∙ reads .runs
 
   splits : text ++ newline ≡ done ++ reads .y
-  splits = I .whole ∙ ap {B = Bytes} (λ (z : Bytes). I .done ++ z) (ahead text table reals room s I ∙ reads .split) ∙ sym (append-assoc (I .done) (reads .x) (reads .y))
+  splits = I .whole ∙ ap {B = Bytes} (λ (z : Bytes). I .done ++ z) (ahead text table reals index room s I ∙ reads .split) ∙ sym (append-assoc (I .done) (reads .x) (reads .y))
 
   length-read : suc (s .at + len) ≡ length done
-  length-read = omega (arith, reads .size, place text table reals room s I, length-append (I .done) (reads .x))
+  length-read = omega (arith, reads .size, place text table reals index room s I, length-append (I .done) (reads .x))
 
   -- the word is refused
   pub refuses : (n p : ℕ) → reached ≡ stopped n p → result text room ≡ refused n p
@@ -120,7 +121,7 @@ module _ (text : Bytes) (table : List ℕ) (reals : List Float) (room : Settings
   all-there es h = subst (λ (z : Bytes). AllRead z es) (sym splits) (all-on (reads .y) done es h)
 
   -- the statement goes on
-  pub goes-on : (s′ : State) (xs D : List Float) → (N : On (suc (s .at + len)) (I .above) (I .phase) reached s′ xs) → length D ≡ length reals → D ≡ filled zeroReal (length reals) ((realTable (I .above) ++ openReals (I .phase)) ++ xs) → Inv text table D room s′
+  pub goes-on : (s′ : State) (xs D : List Float) → (N : On (length index) (suc (s .at + len)) (I .above) (I .phase) reached s′ xs) → length D ≡ length reals → D ≡ filled zeroReal (length reals) ((realTable (I .above) ++ openReals (I .phase)) ++ xs) → Inv text table D index room s′
   goes-on s′ xs D N l h = record {
     done = done;
     rest = reads .y;
@@ -129,19 +130,20 @@ module _ (text : Bytes) (table : List ℕ) (reals : List Float) (room : Settings
     above = I .above;
     whole = splits;
     reach = comes ∙ N .goes ∙ ap (λ (n : ℕ). goingAt n gap (N .phase) (N .places) (I .above)) length-read;
-    is = N .is ∙ ap (λ (n : ℕ). image n (statements (I .above)) (N .phase) (N .places)) length-read;
+    is = N .is ∙ ap (λ (n : ℕ). image (length index) n (statements (I .above)) (N .phase) (N .places)) length-read;
     stored = I .stored;
+    held = I .held;
     doubles = h ∙ (λ i. filled zeroReal (sym l i) ((append-assoc (realTable (I .above)) (openReals (I .phase)) xs ∙ ap {B = List Float} (λ (z : List Float). realTable (I .above) ++ z) (sym (N .reals))) i));
     settings = I .settings ∙ ap (settingsFor (room .mode) (length table)) (sym l);
     short = I .short;
   }
 
-  -- the statement ends: T and D with its record and its reals
-  pub goes-out : (s′ : State) (xs : List Float) (N : Done (suc (s .at + len)) (I .above) (I .phase) reached s′ xs) (T : List ℕ) (D : List Float) → length T ≡ length table → length D ≡ length reals
-      → T ≡ filled 0 (length table) (flat text (records (N .entry ∷ I .above))) → D ≡ filled zeroReal (length reals) ((realTable (I .above) ++ openReals (I .phase)) ++ xs)
-      → (s″ : State) → s″ ≡ between (s′ .at) (s′ .count + 1) (s′ .used) → Inv text T D room s″
+  -- the statement ends: T, D and X with its record, its reals and its number, and the count up to it
+  pub goes-out : (s′ : State) (xs : List Float) (N : Done (length index) (suc (s .at + len)) (I .above) (I .phase) reached s′ xs) (T : List ℕ) (D : List Float) (X : List ℕ) → length T ≡ length table → length D ≡ length reals → length X ≡ length index
+      → T ≡ filled 0 (length table) (flat text (records (N .entry ∷ I .above))) → D ≡ filled zeroReal (length reals) ((realTable (I .above) ++ openReals (I .phase)) ++ xs) → X ≡ lent (length index) (statements (N .entry ∷ I .above))
+      → (s″ : State) → s″ ≡ between (s′ .at) (s′ .count + 1) (s′ .used) (tally (length index) (statements (N .entry ∷ I .above))) → Inv text T D X room s″
   unfolding table-of.reals statements realsUsed
-  goes-out s′ xs N T D t d h g s″ q = record {
+  goes-out s′ xs N T D X t d x h g f s″ q = record {
     done = done;
     rest = reads .y;
     phase = idle;
@@ -149,7 +151,8 @@ module _ (text : Bytes) (table : List ℕ) (reals : List Float) (room : Settings
     above = N .entry ∷ I .above;
     whole = splits;
     reach = comes ∙ N .goes ∙ ap (λ (n : ℕ). goingAt n gap idle (N .places) (N .entry ∷ I .above)) length-read;
-    is = q ∙ (λ i. between ((N .place ∙ length-read) i) (count i) (total i));
+    is = q ∙ (λ i. between ((N .place ∙ length-read) i) (count i) (total i) (tally (sym x i) (statements (N .entry ∷ I .above))));
+    held = f ∙ ap (λ (n : ℕ). lent n (statements (N .entry ∷ I .above))) (sym x);
     stored = h ∙ ap (λ (n : ℕ). filled 0 n (flat text (records (N .entry ∷ I .above)))) (sym t);
     doubles = g ∙ (λ i. filled zeroReal (sym d i) ((append-assoc (realTable (I .above)) (openReals (I .phase)) xs ∙ ap {B = List Float} (λ (z : List Float). realTable (I .above) ++ z) (sym (N .reals)) ∙ sym (append-nil (realTable (I .above) ++ realsIn (N .entry .statement .body)))) i));
     settings = I .settings ∙ (λ i. settingsFor (room .mode) (sym t i) (sym d i));

@@ -3,6 +3,7 @@ use mathlib.Core.List.{List, [], _∷_}
 use Prim.Native.Nat.{ℕ, suc, _+_}
 use lib.Ieee.{Float}
 use lib.ListN.{length}
+use Rattle.index.specs.Lent.{countOpen, tally}
 use Rattle.scene.specs.Links.{realsUsed, modifierLink}
 use Rattle.scene.specs.Phase.{atTarget, atStringCount, Part, atAliasName, atString, atReal, atRealCount, atType, atIntegerCount, Phase, atName, idle, busy}
 use Rattle.scene.specs.Reading.{Places}
@@ -67,7 +68,7 @@ drafted l p q u (atReal t n ss rs k) = record { kind = t; modifier = l; target =
 drafted l p q u atAliasName = record { kind = 0; modifier = l; target = 0; name = p; size = 0; string = q; strings = 0; real = 0; reals = 0 }
 drafted l p q u (atTarget n) = record { kind = 0; modifier = l; target = 0; name = p; size = length n; string = q; strings = 0; real = 0; reals = 0 }
 
--- the code's state at place n, the statements d read
-abbrev pub image : ℕ → List Statement → Phase → Places → State
-image n d idle k = between n (length d) (realsUsed d)
-image n d (busy m p) k = record { at = n; count = length d; used = realsUsed d + length (partReals p); left = leftOf p; phase = phaseOf p; draft = drafted (modifierLink m d) (k .name) (k .string) (realsUsed d) p }
+-- the code's state at place n, the statements d read, with a lent index of `size` entries
+abbrev pub image : (size n : ℕ) → List Statement → Phase → Places → State
+image size n d idle k = between n (length d) (realsUsed d) (tally size d)
+image size n d (busy m p) k = record { at = n; count = length d; used = realsUsed d + length (partReals p); left = leftOf p; looked = countOpen size (tally size d) m d; phase = phaseOf p; draft = drafted (modifierLink m d) (k .name) (k .string) (realsUsed d) p }

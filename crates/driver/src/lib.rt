@@ -1,27 +1,33 @@
 // The driver of the scene reader: step by step through a text, each step done to the lent tables.
-ghost use mathlib.Core.Path.{_≡_};
 ghost use Rattle.driver.specs.Ending.{Ends};
 use scene::Mode;
 use statement::Step;
 
-// How reading ends: accepted with the counts of primitives and reals, or refused with reason and place.
+// How reading ends: accepted with the counts of primitives, of reals and of entries looked at, or refused with reason and place.
 pub enum End {
-    Accepted(usize, usize),
+    Accepted(usize, usize, u32),
     Refused(u32, usize),
 }
 
-// Reads a scene text into the lent tables, which it clears first, and again after a refusal.
-pub fn run(mode: Mode, text: &[u8], records: &mut [u32], reals: &mut [f64]) -> End
-    ensures { λ r. ⌜ Ends mode (now (text .entry)) (now (records .entry)) (now (reals .entry)) r (now (records .exit)) (now (reals .exit)) ⌝ }
+// Reads a scene text into the lent tables, which it clears first, and again after a refusal. An index of under 2,048 entries is
+// cleared too, and not used.
+pub fn run(
+    mode: Mode,
+    text: &[u8],
+    records: &mut [u32],
+    reals: &mut [f64],
+    index: &mut [u32],
+) -> End
+    ensures { λ r. ⌜ Ends mode (now (text .entry)) (now (records .entry)) (now (reals .entry)) (now (index .entry)) r (now (records .exit)) (now (reals .exit)) (now (index .exit)) ⌝ }
 {
-    table::clear(records, reals);
+    table::clear_all(records, reals, index);
     if table::MOST_BYTES < text.len() {
         return End::Refused(1, 0);
     }
     let settings = table::settings_for(mode, records.len(), reals.len());
-    let mut s = statement::between(0, 0, 0);
+    let mut s = statement::between(0, 0, 0, 0);
     loop {
-        match parser::next_step(text, records, reals, settings, s) {
+        match parser::next_step(text, records, reals, index, settings, s) {
             Step::Going(t) => {
                 s = t;
             }
@@ -33,21 +39,17 @@ pub fn run(mode: Mode, text: &[u8], records: &mut [u32], reals: &mut [f64]) -> E
             Step::Last(t, x) => {
                 let at = s.used;
                 reals[at] = x;
-                let d = t.draft;
-                linker::enter(text, records, t.count, d);
-                s = statement::between(t.at, t.count + 1, t.used);
+                s = linker::enter(text, records, index, t);
             }
             Step::Complete(t) => {
-                let d = t.draft;
-                linker::enter(text, records, t.count, d);
-                s = statement::between(t.at, t.count + 1, t.used);
+                s = linker::enter(text, records, index, t);
             }
             Step::Refused(reason, place) => {
-                table::clear(records, reals);
+                table::clear_all(records, reals, index);
                 return End::Refused(reason, place);
             }
             Step::Ended => {
-                return End::Accepted(s.count, s.used);
+                return End::Accepted(s.count, s.used, s.looked);
             }
         }
     }

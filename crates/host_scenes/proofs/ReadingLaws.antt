@@ -1,16 +1,18 @@
 -- A mode by its number, and an answer of the reader told by its numbers.
 use mathlib.Core.List.{List, [], _∷_}
-use mathlib.Core.Path.{_≡_, ap, subst}
+use mathlib.Core.Path.{_≡_, ap, sym, subst, _∙_}
 use Prim.Native.Nat.{ℕ}
 use borrow.Author.Tests.{eq-eqb, ne-eqb}
 use lib.Ieee.{Float}
 use Rattle.laws.specs.Bytes.{Bytes}
 use Rattle.reader.specs.Answer.{Reads, numbersOf}
+use Rattle.reader.specs.Indexed.{ReadsIndexed}
 use Rattle.reader.specs.declared.Answer.{Answer}
+use Rattle.reader.specs.declared.Indexed.{Indexed}
 use Rattle.scene.specs.Record.{Answer as Numbers}
 use Rattle.scene.specs.declared.Mode.{Mode}
 use Rattle.scene.specs.declared.Mode.the-variants.{New, Archive}
-use Rattle.host_scenes.specs.Host.{HostReads, modeOf}
+use Rattle.host_scenes.specs.Host.{HostReads, HostReadsIndexed, modeOf}
 
 pub mode-archive : (number : ℕ) → number ≡ 1 → Archive ≡ modeOf number
 unfolding modeOf
@@ -26,3 +28,10 @@ module _ (number : ℕ) (mode : Mode) (q : mode ≡ modeOf number) where
   reading-told text records reals a records′ reals′ R =
       let e = subst (λ (m : Mode). Reads m text records reals a records′ reals′) q R in
       record { says = ap (λ (z : Numbers). z .reason) (e .numbers); numbers = ap (λ (z : Numbers). z .place ∷ z .primitives ∷ z .reals ∷ []) (e .numbers); table = e .table; doubles = e .doubles }
+
+  pub indexed-told : (text : Bytes) (records : List ℕ) (reals : List Float) (index : List ℕ) (f : Indexed) (records′ : List ℕ) (reals′ : List Float) (index′ : List ℕ) → ReadsIndexed mode text records reals index f records′ reals′ index′
+      → (a : Answer) → f .answer ≡ a → let n = numbersOf a in HostReadsIndexed number text records reals index (n .reason) (n .place ∷ n .primitives ∷ n .reals ∷ f .looked ∷ []) records′ reals′ index′
+  indexed-told text records reals index f records′ reals′ index′ R a t =
+      let e = subst (λ (m : Mode). ReadsIndexed m text records reals index f records′ reals′ index′) q R in
+      let n = sym (ap numbersOf t) ∙ e .numbers in
+      record { says = ap (λ (z : Numbers). z .reason) n; numbers = (λ i. n i .place ∷ n i .primitives ∷ n i .reals ∷ e .looked i ∷ []); table = e .table; doubles = e .doubles; entries = e .entries }

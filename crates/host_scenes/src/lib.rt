@@ -6,7 +6,7 @@ use table::NAME;
 use table::NAME_LENGTH;
 ghost use mathlib.Core.Path.{_≡_};
 ghost use Rattle.finish.specs.Question.{nameRefusal};
-ghost use Rattle.host_scenes.specs.Host.{HostReads, finishReason, finishValues, modeOf, namePart, wordValues};
+ghost use Rattle.host_scenes.specs.Host.{HostReads, HostReadsIndexed, finishReason, finishValues, modeOf, namePart, wordValues};
 
 // The mode of a number: 1 is the archive reading, and any other number the new one.
 pub fn mode_of(number: u32) -> Mode
@@ -35,6 +35,31 @@ pub fn tell_reading(
         }
         Answer::Refused(reason, place) => {
             *answer = [place, 0, 0];
+            reason
+        }
+    }
+}
+
+// Reads a scene by a lent index: the reason or 0, and place, primitives, reals, and entries looked at.
+pub fn tell_indexed(
+    mode: u32,
+    text: &[u8],
+    records: &mut [u32],
+    reals: &mut [f64],
+    index: &mut [u32],
+    answer: &mut [usize; 4],
+) -> u32
+    ensures { λ r. ⌜ HostReadsIndexed mode (now (text .entry)) (now (records .entry)) (now (reals .entry)) (now (index .entry)) r (now (answer .exit)) (now (records .exit)) (now (reals .exit)) (now (index .exit)) ⌝ }
+{
+    let r = reader::read_indexed(mode_of(mode), text, records, reals, index);
+    let told = r.answer;
+    match told {
+        Answer::Accepted(primitives, used) => {
+            *answer = [0, primitives, used, r.looked as usize];
+            0
+        }
+        Answer::Refused(reason, place) => {
+            *answer = [place, 0, 0, r.looked as usize];
             reason
         }
     }

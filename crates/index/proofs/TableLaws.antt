@@ -7,7 +7,7 @@ use Prim.Native.Nat.{ℕ, suc, _+_, _-_, _/_, _≤_, _<_, min}
 use native.Mathlib.Omega.{arith}
 use borrow.Author.Tests.{eqb-true, eqb-false, le-leb, lt-leb}
 use lib.Dec.{eqb, leb}
-use lib.ListN.{length, getD, set, replicate}
+use lib.ListN.{length, length-replicate, getD, set, replicate, replicate-append-replicate}
 use lib.Seq.{set-append-left}
 use Rattle.laws.proofs.NatLaws.{le-or-lt}
 use Rattle.laws.proofs.TableLaws.{padded}
@@ -18,7 +18,7 @@ use Rattle.index.proofs.AlikeLaws.{alike-searched, index-enters, index-
 use Rattle.index.proofs.IndexLaws.{index-length, index-low}
 use Rattle.index.proofs.ReportLaws.{alike-tail, gives-new, name-new, searches-alike}
 use Rattle.index.proofs.SearchLaws.{searched-padded, set-beyond, sought-indexed, sought-plain}
-use Rattle.index.specs.Index.{entered, entryOf, searched}
+use Rattle.index.specs.Index.{entered, entryOf, indexBy, searched}
 use Rattle.index.specs.Lent.{lent, lookedBy}
 use Rattle.index.specs.Report.{givesNo, indexOf, looked, nameNo, primitivesOf}
 use Rattle.index.specs.Searches.{Alike, sought}
@@ -49,6 +49,20 @@ module _ (n : ℕ) (d : List Statement) where
   pub looked-unused : (w : Bytes) → n < 2048 → lookedBy n w d ≡ 0
   unfolding lookedBy
   looked-unused w l = rw (lt-leb 2048 n l)
+
+zeros-filled : (m n : ℕ) → m ≤ n → replicate {A = ℕ} n 0 ≡ filled 0 n (replicate m 0)
+zeros-filled m n l =
+    let e : n ≡ m + (n - length (replicate {A = ℕ} m 0)) = omega (arith, length-replicate {A = ℕ} m 0) in
+    ap (λ (k : ℕ). replicate k 0) e ∙ sym (replicate-append-replicate m (n - length (replicate {A = ℕ} m 0)) 0)
+
+-- a cleared one is that of no statement
+pub lent-none : (n : ℕ) → replicate n 0 ≡ lent n []
+unfolding indexBy
+lent-none n = go (le-or-lt 2048 n)
+  where
+    go : (2048 ≤ n) ⊎ (n < 2048) → replicate n 0 ≡ lent n []
+    go (inl l) = zeros-filled 2048 n l ∙ sym (lent-used n [] l)
+    go (inr l) = sym (lent-unused n [] l)
 
 -- ---- one statement more
 

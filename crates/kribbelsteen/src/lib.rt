@@ -7,7 +7,7 @@ ghost use Rattle.hits.specs.Ring.{ringHit};
 ghost use Rattle.hits.specs.Sphere.{sphereHit};
 ghost use Rattle.host_rays.specs.Host.{hitKind, hitValues, rayIn, reflectionKind, reflectionValues, ringIn, sphereIn};
 ghost use Rattle.host_saves.specs.Host.{HostLine, HostReadsBoth, HostWrites};
-ghost use Rattle.host_scenes.specs.Host.{HostReads, finishReason, finishValues, namePart, wordValues};
+ghost use Rattle.host_scenes.specs.Host.{HostReads, HostReadsIndexed, finishReason, finishValues, namePart, wordValues};
 ghost use Rattle.root.specs.Root.{rootOf};
 
 // Reads a scene: the reason or 0, and place, primitives, reals.
@@ -22,6 +22,21 @@ pub extern "C" fn kribbelsteen_read(
     ensures { λ r. ⌜ HostReads mode (now (text .entry)) (now (records .entry)) (now (reals .entry)) r (now (answer .exit)) (now (records .exit)) (now (reals .exit)) ⌝ }
 {
     host_scenes::tell_reading(mode, text, records, reals, answer)
+}
+
+// Reads a scene by a lent index: the reason or 0, and place, primitives, reals, and entries looked at.
+#[no_mangle]
+pub extern "C" fn kribbelsteen_read_indexed(
+    mode: u32,
+    text: &[u8],
+    records: &mut [u32],
+    reals: &mut [f64],
+    index: &mut [u32],
+    answer: &mut [usize; 4],
+) -> u32
+    ensures { λ r. ⌜ HostReadsIndexed mode (now (text .entry)) (now (records .entry)) (now (reals .entry)) (now (index .entry)) r (now (answer .exit)) (now (records .exit)) (now (reals .exit)) (now (index .exit)) ⌝ }
+{
+    host_scenes::tell_indexed(mode, text, records, reals, index, answer)
 }
 
 // A primitive's name: the refusal's number or 0, and the name's place and length.

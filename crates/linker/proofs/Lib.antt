@@ -1,4 +1,2 @@
-pub mod PhaseLaws
 pub mod TableLaws
-pub mod SeenLaws
 pub mod EnteredLaws

@@ -2,22 +2,20 @@
 use mathlib.Core.Bool.{Bool, true, false}
 use mathlib.Core.List.{List, _++_}
 use mathlib.Core.Path.{_≡_, refl, ap, sym, _∙_}
-use Prim.Native.Nat.{ℕ, zero, suc, _+_, _-_, _*_, _/_, _≤_, _<_, min}
+use Prim.Native.Nat.{ℕ, zero, suc, _+_, _-_, _*_, _/_, _≤_, _<_}
 use native.Mathlib.Numerals.{add-one}
 use native.Mathlib.Omega.{arith}
 use borrow.Author.Tests.{le-leb, lt-leb}
-use lib.Ieee.{Float}
 use lib.ListN.{length, getD, set, take, drop}
 use lib.Seq.{paste, paste-suc, sets, sets-eq, take-length}
-use Rattle.laws.proofs.BoolLaws.{cond-elim}
 use Rattle.laws.specs.Bytes.{Bytes, part}
 use Rattle.line_numbers.specs.Lines.{lineFrom}
-use Rattle.linker.specs.Entered.{earlierIn, enteredIn, rowOf, toldIn}
-use Rattle.lookup.specs.Lookup.{hasName, latestIn}
-use Rattle.linker.specs.Seen.{back, clipped, draftIn, isLookedUp, lookedFor}
-use Rattle.statement.specs.declared.Phase.{Phase}
-use Rattle.scene.specs.HouseRules.{zeroReal}
-use Rattle.scene.specs.Record.{fieldIn, recordIn, width, nextField}
+use Rattle.index.specs.Searches.{sought}
+use Rattle.index.specs.declared.Found.{Found}
+use Rattle.linker.specs.Entered.{behindIn, earlierIn, enteredIn, indexedIn, rowOf, toldIn}
+use Rattle.statement.specs.States.{between, clipped, countedIn}
+use Rattle.statement.specs.declared.State.{State}
+use Rattle.scene.specs.Record.{width, nextField}
 use Rattle.scene.specs.Types.{isSurface}
 use Rattle.statement.specs.declared.Draft.{Draft}
 
@@ -26,45 +24,13 @@ use Rattle.statement.specs.declared.Draft.{Draft}
 pub told-none : (t : List ℕ) (k v : ℕ) → k ≡ 0 → toldIn t k v ≡ t
 told-none t k v e = ap (λ (k : ℕ). toldIn t k v) e
 
-pub told-some : (t : List ℕ) (k v : ℕ) → (k ≡ 0 → ⊥) → toldIn t k v ≡ set t ((k - 1) * width + nextField) v
-told-some t zero v h = absurd (h refl)
-told-some t (suc k) v h = let e : suc k - 1 ≡ k = omega arith in ap (λ (n : ℕ). set t (n * width + nextField) v) (sym e)
+pub told-beyond : (t : List ℕ) (k v : ℕ) → length t / width < k → toldIn t k v ≡ t
+told-beyond t zero v h = refl
+told-beyond t (suc k) v h = rw (lt-leb (suc k) (length t / width) h)
 
--- ---- a lookup's number
-
-pub latest-in-le : (text T w : List ℕ) (n : ℕ) → latestIn text T w n ≤ n
-unfolding latestIn
-latest-in-le text T w zero = omega arith
-latest-in-le text T w (suc n) = cond-elim (λ m. m ≤ suc n) (hasName text T (suc n) w) (omega arith) (let h = latest-in-le text T w n in omega arith)
-
-pub looked-le : (ph : Phase) (x n : ℕ) → x ≤ n → lookedFor ph x ≤ n
-looked-le ph x n h = cond-elim (λ m. m ≤ n) (isLookedUp ph) h (omega arith)
-
--- b tells whether a word is looked up
-module _ {b : Bool} (ph : Phase) (x : ℕ) (e : b ≡ isLookedUp ph) where
-  pub looked-yes : b ≡ true → x ≡ lookedFor ph x
-  looked-yes h = rw (← e, h)
-
-  pub looked-no : b ≡ false → 0 ≡ lookedFor ph x
-  looked-no h = rw (← e, h)
-
--- ---- the record of a number
-
-pub draft-some : (t : List ℕ) (k : ℕ) → (k ≡ 0 → ⊥)
-    → record { kind = fieldIn t k 0; modifier = 0; target = 0; name = 0; size = 0; string = fieldIn t k 5; strings = fieldIn t k 6; real = fieldIn t k 7; reals = fieldIn t k 8 } ≡ draftIn t k
-unfolding recordIn
-draft-some t zero h = absurd (h refl)
-draft-some t (suc k) h = refl
-
--- ---- a real
-
-pub back-some : (D : List Float) (u j : ℕ) → j ≤ u → getD D (u - j) zeroReal ≡ back D u j
-unfolding back
-back-some D u j l = rw (le-leb j u l)
-
-pub back-none : (D : List Float) (u j : ℕ) → u < j → zeroReal ≡ back D u j
-unfolding back
-back-none D u j h = rw (lt-leb j u h)
+pub told-some : (t : List ℕ) (k v : ℕ) → (k ≡ 0 → ⊥) → k ≤ length t / width → toldIn t k v ≡ set t ((k - 1) * width + nextField) v
+told-some t zero v h l = absurd (h refl)
+told-some t (suc k) v h l = let e : suc k - 1 ≡ k = omega arith in rw (le-leb (suc k) (length t / width) l) (ap (λ (n : ℕ). set t (n * width + nextField) v) (sym e))
 
 -- ---- a row, copied number by number
 
@@ -77,27 +43,37 @@ module _ (T row : List ℕ) (at : ℕ) (fits : at + length row ≤ length T) whe
 
 -- ---- a record entered
 
-module _ (text : Bytes) (T : List ℕ) (n : ℕ) (d : Draft) where
-  abbrev rows : ℕ
-  rows = length T / width
-
-  pub entered-none : rows ≤ n → T ≡ enteredIn text T n d
-  unfolding enteredIn
-  entered-none h = rw (le-leb rows n h)
-
-  -- the record told of a draft, as the code finds it
-  pub earlier-surface : {q : Bool} → q ≡ isSurface (d .kind) → q ≡ true → 0 ≡ earlierIn text T n d
+module _ (text : Bytes) (T x : List ℕ) (n : ℕ) (d : Draft) where
+  -- the search, as the code does it
+  pub earlier-surface : {q : Bool} → q ≡ isSurface (d .kind) → q ≡ true → record { entry = length x; number = 0; looked = 0 } ≡ earlierIn text T x n d
   unfolding earlierIn
   earlier-surface e h = rw (← e, h)
 
-  pub earlier-found : {q : Bool} {w : Bytes} {r : ℕ} → q ≡ isSurface (d .kind) → q ≡ false → w ≡ part text (d .name) (d .size) → r ≡ latestIn text T w (min n rows) → r ≡ earlierIn text T n d
+  pub earlier-found : {q : Bool} {w : Bytes} {r : Found} → q ≡ isSurface (d .kind) → q ≡ false → w ≡ part text (d .name) (d .size) → r ≡ sought text T x n w → r ≡ earlierIn text T x n d
   unfolding earlierIn
-  earlier-found e h p f = f ∙ rw (← e, h) (ap (λ (v : Bytes). latestIn text T v (min n rows)) p)
+  earlier-found e h p f = f ∙ rw (← e, h) (ap (sought text T x n) p)
 
-  pub earlier-most : earlierIn text T n d ≤ min n rows
-  unfolding earlierIn
-  earlier-most = cond-elim (λ m. m ≤ min n rows) (isSurface (d .kind)) (omega arith) (latest-in-le text T (part text (d .name) (d .size)) (min n rows))
+-- the statement of the state t is entered
+module _ (text : Bytes) (T x : List ℕ) (t : State) where
+  abbrev rows : ℕ
+  rows = length T / width
 
-  pub entered-one : n < rows → {line told number : ℕ} {T₁ T₂ : List ℕ} → line ≡ clipped (lineFrom text T n (d .name)) → told ≡ earlierIn text T n d → number ≡ clipped (n + 1) → T₁ ≡ toldIn T told number → T₂ ≡ sets T₁ (n * width) (rowOf d line) → T₂ ≡ enteredIn text T n d
-  unfolding enteredIn
-  entered-one h l e m t s = rw (lt-leb rows n h) (s ∙ (λ i. sets ((t ∙ (λ j. toldIn T (e j) (m j))) i) (n * width) (rowOf d (l i))))
+  abbrev Behind : State → List ℕ → List ℕ → Type 0
+  Behind s T′ x′ = (s ≡ behindIn text T x t) × ((T′ ≡ enteredIn text T x (t .count) (t .draft)) × (x′ ≡ indexedIn text T x (t .count) (t .draft)))
+
+  pub entered-none : rows ≤ t .count → {s : State} → s ≡ between (t .at) (t .count) (t .used) (t .looked) → Behind s T x
+  unfolding behindIn enteredIn indexedIn
+  entered-none h q = (rw (le-leb rows (t .count) h) q, (rw (le-leb rows (t .count) h), rw (le-leb rows (t .count) h)))
+
+  pub entered-one : t .count < rows → {line number : ℕ} {f : Found} {T₁ T₂ x′ : List ℕ} {u s : State}
+      → line ≡ clipped (lineFrom text T (t .count) (t .draft .name)) → f ≡ earlierIn text T x (t .count) (t .draft) → number ≡ clipped (t .count + 1)
+      → T₁ ≡ toldIn T (f .number) number → T₂ ≡ sets T₁ (t .count * width) (rowOf (t .draft) line) → x′ ≡ set x (f .entry) number
+      → u ≡ countedIn t (f .looked) → s ≡ between (t .at) (t .count + 1) (t .used) (u .looked) → Behind s T₂ x′
+  unfolding behindIn enteredIn indexedIn
+  entered-one h l e m told row put count q = (
+    rw (lt-leb rows (t .count) h) (q ∙ (λ i. between (t .at) (t .count + 1) (t .used) ((ap (λ (z : State). z .looked) count ∙ ap (λ (f : Found). clipped (t .looked + f .looked)) e) i))),
+    (
+      rw (lt-leb rows (t .count) h) (row ∙ (λ i. sets ((told ∙ (λ j. toldIn T (e j .number) (m j))) i) (t .count * width) (rowOf (t .draft) (l i)))),
+      rw (lt-leb rows (t .count) h) (put ∙ (λ i. set x (e i .entry) (m i))),
+    ),
+  )

@@ -1,14 +1,16 @@
 -- A record is entered behind the others, and the latest earlier one of its name is told its number.
 use mathlib.Core.Bool.{cond}
 use mathlib.Core.List.{List, [], _∷_}
-use Prim.Native.Nat.{ℕ, zero, suc, _+_, _*_, _/_, min}
+use Prim.Native.Nat.{ℕ, zero, suc, _+_, _*_, _/_}
 use lib.Dec.{leb}
 use lib.ListN.{length, set}
 use lib.Seq.{sets}
 use Rattle.laws.specs.Bytes.{Bytes, part}
 use Rattle.line_numbers.specs.Lines.{lineFrom}
-use Rattle.lookup.specs.Lookup.{latestIn}
-use Rattle.linker.specs.Seen.{clipped}
+use Rattle.index.specs.Searches.{sought}
+use Rattle.index.specs.declared.Found.{Found}
+use Rattle.statement.specs.States.{between, clipped}
+use Rattle.statement.specs.declared.State.{State}
 use Rattle.statement.specs.declared.Draft.{Draft}
 use Rattle.scene.specs.Record.{width, Record, nextField}
 use Rattle.scene.specs.Types.{isSurface}
@@ -22,16 +24,26 @@ abbrev pub rowOf : Draft → (line : ℕ) → List ℕ
 rowOf d line =
     d .kind ∷ d .modifier ∷ d .target ∷ d .name ∷ d .size ∷ d .string ∷ d .strings ∷ d .real ∷ d .reals ∷ 0 ∷ line ∷ []
 
--- "number of the next primitive of the same name": the record of a number is told it, and 0 is no record
+-- "number of the next primitive of the same name": the record of a number is told it; 0, or one past the table's last, is no record
 abbrev pub toldIn : List ℕ → ℕ → ℕ → List ℕ
 toldIn table zero number = table
-toldIn table (suc k) number = set table (k * width + nextField) number
+toldIn table (suc k) number = cond (leb (suc k) (length table / width)) (set table (k * width + nextField) number) table
 
--- the number of the record that gets the draft as its next: the latest of the first n of its name; "0 for surfaces"
-unfoldable pub earlierIn : Bytes → List ℕ → ℕ → Draft → ℕ
-earlierIn text table n d = cond (isSurface (d .kind)) 0 (latestIn text table (part text (d .name) (d .size)) (min n (length table / width)))
+-- the search for the record that gets the draft as its next, the latest of the first n of its name; "0 for surfaces", for which no
+-- entry of the index x is looked at
+unfoldable pub earlierIn : Bytes → List ℕ → List ℕ → ℕ → Draft → Found
+earlierIn text table x n d = cond (isSurface (d .kind)) (record { entry = length x; number = 0; looked = 0 }) (sought text table x n (part text (d .name) (d .size)))
 
 -- that record is told of record n + 1, which the draft becomes; nothing is entered where there is no room
-unfoldable pub enteredIn : Bytes → List ℕ → ℕ → Draft → List ℕ
-enteredIn text table n d =
-    cond (leb (length table / width) n) table (sets (toldIn table (earlierIn text table n d) (clipped (n + 1))) (n * width) (rowOf d (clipped (lineFrom text table n (d .name)))))
+unfoldable pub enteredIn : Bytes → List ℕ → List ℕ → ℕ → Draft → List ℕ
+enteredIn text table x n d =
+    cond (leb (length table / width) n) table (sets (toldIn table (earlierIn text table x n d .number) (clipped (n + 1))) (n * width) (rowOf d (clipped (lineFrom text table n (d .name)))))
+
+-- its number is written where the search ended
+unfoldable pub indexedIn : Bytes → List ℕ → List ℕ → ℕ → Draft → List ℕ
+indexedIn text table x n d = cond (leb (length table / width) n) x (set x (earlierIn text table x n d .entry) (clipped (n + 1)))
+
+-- and the entries looked at are counted
+unfoldable pub behindIn : Bytes → List ℕ → List ℕ → State → State
+behindIn text table x t =
+    cond (leb (length table / width) (t .count)) (between (t .at) (t .count) (t .used) (t .looked)) (between (t .at) (t .count + 1) (t .used) (clipped (t .looked + earlierIn text table x (t .count) (t .draft) .looked)))

@@ -1,3 +1,2 @@
 -- Inner models of the proofs.
-pub mod Seen
 pub mod Entered

@@ -1,111 +1,21 @@
-// Names linked to records: what a step may look at of the tables, and the record of a complete statement entered.
+// The record of a complete statement entered into the tables: its row, the next of the earlier one of its name, and the index.
 ghost use mathlib.Core.Path.{_≡_};
-ghost use Prim.Native.Nat.{_+_, _*_, _/_, _≤_, min};
-ghost use lib.ListN.{getD, length};
+ghost use Prim.Native.Nat.{_+_, _*_, _≤_};
+ghost use lib.ListN.{length};
 ghost use lib.Seq.{sets};
-ghost use Rattle.linker.specs.Entered.{earlierIn, enteredIn, rowOf, toldIn};
-ghost use Rattle.lookup.specs.Lookup.{latestIn};
-ghost use Rattle.linker.specs.Seen.{back, clipped, draftIn, isLookedUp, lookedFor, seenIn};
-ghost use Rattle.scene.specs.HouseRules.{zeroReal};
+ghost use Rattle.linker.specs.Entered.{behindIn, earlierIn, enteredIn, indexedIn, rowOf, toldIn};
 ghost use Rattle.scene.specs.Record.{width};
+use index::Found;
 use statement::Draft;
-use statement::Phase;
-use statement::Seen;
 use statement::State;
-use statement::linked;
-use table::KIND;
+use statement::narrow;
 use table::NEXT;
-use table::REAL;
-use table::REALS;
-use table::STRING;
-use table::STRINGS;
 use table::WIDTH;
 
 fn wide(n: u32) -> usize
     ensures { λ r. ⌜ r ≡ n ⌝ }
 {
     n as usize
-}
-
-// A number that a record can hold: those past the largest count as the largest.
-fn narrow(n: usize) -> u32
-    ensures { λ r. ⌜ r ≡ clipped n ⌝ }
-{
-    lexer::least(n, 4294967295) as u32
-}
-
-// Only a modifier and an alias target are looked up.
-fn is_looked_up(phase: Phase) -> bool
-    ensures { λ r. ⌜ r ≡ isLookedUp phase ⌝ }
-{
-    if let Phase::Idle = phase {
-        return true;
-    }
-    if let Phase::Target = phase {
-        true
-    } else {
-        false
-    }
-}
-
-fn look_up(text: &[u8], records: &[u32], count: usize, phase: Phase, word: &[u8]) -> usize
-    ensures { λ r. ⌜ r ≡ lookedFor phase (latestIn (now (text .entry)) (now (records .entry)) (now (word .entry)) (min count (length (now (records .entry)) / width))) ⌝ }
-{
-    if is_looked_up(phase) {
-        return lookup::find(text, records, count, word);
-    }
-    0
-}
-
-// Type, strings and reals of a record by its number.
-fn source_of(records: &[u32], number: usize) -> Draft
-    ensures { λ r. ⌜ r ≡ draftIn (now (records .entry)) number ⌝ }
-{
-    let mut d = linked(0);
-    if number == 0 {
-        return d;
-    }
-    d.kind = table::field(records, number, KIND);
-    d.string = table::field(records, number, STRING);
-    d.strings = table::field(records, number, STRINGS);
-    d.real = table::field(records, number, REAL);
-    d.reals = table::field(records, number, REALS);
-    d
-}
-
-// The real that stands `j` before the next one.
-fn back(reals: &[f64], used: usize, j: usize) -> f64
-    ensures { λ r. ⌜ r ≡ back (now (reals .entry)) used j ⌝ }
-{
-    if j <= used {
-        return table::real_at(reals, used - j);
-    }
-    0.0
-}
-
-// What a step may look at beside the word, which stands at `place`.
-pub fn look(
-    text: &[u8],
-    records: &[u32],
-    reals: &[f64],
-    s: State,
-    place: usize,
-    word: &[u8],
-) -> Seen
-    ensures { λ r. ⌜ r ≡ seenIn (now (text .entry)) (now (records .entry)) (now (reals .entry)) s place (now (word .entry)) ⌝ }
-{
-    let phase = s.phase;
-    let found = look_up(text, records, s.count, phase, word);
-    Seen {
-        place,
-        name: narrow(place),
-        size: narrow(word.len()),
-        used: narrow(s.used),
-        found: narrow(found),
-        source: source_of(records, found),
-        previous: back(reals, s.used, 1),
-        first: back(reals, s.used, 2),
-    }
 }
 
 // Stores a draft as row `n`, counted from 0, with no next of its name, and the line of its name.
@@ -134,37 +44,54 @@ fn put_row(records: &mut [u32], n: usize, d: Draft, line: u32)
     }
 }
 
-// Tells the record of a number which is the next of its name; 0 is no record.
+// Tells the record of a number which is the next of its name; 0, or one past the table's last, is no record.
 fn tell_next(records: &mut [u32], number: usize, next: u32)
-    requires { ⌜ number * width ≤ length (now records) ⌝ }
     ensures { λ _. ⌜ now (records .exit) ≡ toldIn (now (records .entry)) number next ⌝ }
 {
-    if number != 0 {
-        records[(number - 1) * WIDTH + NEXT] = next;
-    }
-}
-
-// The number of the record that gets the draft as its next: the latest before it of its name. A surface is nobody's next.
-fn earlier(text: &[u8], records: &[u32], count: usize, d: Draft) -> usize
-    ensures { λ r. ⌜ r ≡ earlierIn (now (text .entry)) (now (records .entry)) count d ⌝ }
-{
-    if kinds::is_surface(d.kind) {
-        return 0;
-    }
-    let name = lexer::part(text, wide(d.name), wide(d.size));
-    lookup::find(text, records, count, name)
-}
-
-// The finished statement becomes record `count`, counted from 0, where the table has room for it.
-pub fn enter(text: &[u8], records: &mut [u32], count: usize, d: Draft)
-    ensures { λ _. ⌜ now (records .exit) ≡ enteredIn (now (text .entry)) (now (records .entry)) count d ⌝ }
-{
-    if records.len() / WIDTH <= count {
+    if number == 0 {
         return;
     }
+    if records.len() / WIDTH < number {
+        return;
+    }
+    records[(number - 1) * WIDTH + NEXT] = next;
+}
+
+// The search for the record that gets the draft as its next: the latest before it of its name. A surface is nobody's next, and is
+// not searched for.
+fn earlier(text: &[u8], records: &[u32], index: &[u32], count: usize, d: Draft) -> Found
+    ensures { λ r. ⌜ r ≡ earlierIn (now (text .entry)) (now (records .entry)) (now (index .entry)) count d ⌝ }
+{
+    if kinds::is_surface(d.kind) {
+        return Found {
+            entry: index.len(),
+            number: 0,
+            looked: 0,
+        };
+    }
+    let name = lexer::part(text, wide(d.name), wide(d.size));
+    index::search(text, records, index, count, name)
+}
+
+// The finished statement becomes record `count`, counted from 0, where the table has room for it; a non-surface is entered into the
+// index where the search for its name ended.
+pub fn enter(text: &[u8], records: &mut [u32], index: &mut [u32], t: State) -> State
+    ensures { λ r. ⌜ r ≡ behindIn (now (text .entry)) (now (records .entry)) (now (index .entry)) t ⌝ }
+    ensures { λ _. ⌜ now (records .exit) ≡ enteredIn (now (text .entry)) (now (records .entry)) (now (index .entry)) (t .count) (t .draft) ⌝ }
+    ensures { λ _. ⌜ now (index .exit) ≡ indexedIn (now (text .entry)) (now (records .entry)) (now (index .entry)) (t .count) (t .draft) ⌝ }
+{
+    let count = t.count;
+    if records.len() / WIDTH <= count {
+        return statement::between(t.at, count, t.used, t.looked);
+    }
+    let d = t.draft;
     let line = narrow(line_numbers::line_of(text, records, count, wide(d.name)));
-    let told = earlier(text, records, count, d);
-    let number = narrow(count + 1);
-    tell_next(records, told, number);
+    let found = earlier(text, records, index, count, d);
+    let last = count + 1;
+    let number = narrow(last);
+    tell_next(records, found.number, number);
     put_row(records, count, d, line);
+    index::put(index, found.entry, number);
+    let u = statement::counted(t, found.looked);
+    statement::between(t.at, last, t.used, u.looked)
 }

@@ -11,10 +11,10 @@ use Rattle.laws.specs.Bytes.{Bytes, part}
 use Rattle.lexer.proofs.WordLaws.{end-most}
 use Rattle.lexer.specs.Word.{wordAt, wordFault}
 use Rattle.lexer.specs.declared.Word.{Word}
-use Rattle.linker.specs.Seen.{seenIn}
+use Rattle.context.specs.Seen.{seenIn}
 use Rattle.parser.specs.Steps.{endOf, nextStep, openedStep, standing, stepOf, wordStep}
 use Rattle.scene.specs.declared.Settings.{Settings}
-use Rattle.statement.specs.States.{movedTo, openingOf}
+use Rattle.statement.specs.States.{countedIn, movedTo, openingOf}
 use Rattle.statement.specs.declared.Opening.{Opening}
 use Rattle.statement.specs.declared.Phase.{Phase}
 use Rattle.statement.specs.declared.Seen.{Seen}
@@ -28,7 +28,7 @@ pub in-phase : (w : Bytes) (room : Settings) (s : State) (v : Seen) {p : Phase} 
 in-phase w room s v h e = e ∙ sym (ap (λ p. stepOf p w room s v) h)
 
 -- a word with the bytes b and the fault f
-module _ (text : Bytes) (table : List ℕ) (reals : List Float) (room : Settings) (s : State) (w : Word) (b : Bytes) (f : ℕ) (p : b ≡ part text (w .place) (w .len)) (e : f ≡ wordFault b) where
+module _ (text : Bytes) (table : List ℕ) (reals : List Float) (x : List ℕ) (room : Settings) (s : State) (w : Word) (b : Bytes) (f : ℕ) (p : b ≡ part text (w .place) (w .len)) (e : f ≡ wordFault b) where
   abbrev whole : Bytes
   whole = part text (w .place) (w .len)
 
@@ -38,33 +38,35 @@ module _ (text : Bytes) (table : List ℕ) (reals : List Float) (room : Settings
   fault-is : f ≡ wordFault whole
   fault-is = e ∙ ap wordFault p
 
-  pub word-faulty : (f ≡ 0 → ⊥) → to.Refused f (w .place) ≡ wordStep text table reals room s w
+  pub word-faulty : (f ≡ 0 → ⊥) → to.Refused f (w .place) ≡ wordStep text table reals x room s w
   unfolding wordStep
   word-faulty h = rw (← fault-is, ne-eqb f 0 h)
 
-  pub word-good : f ≡ 0 → (t : State) (v : Seen) (r : Step) → t ≡ behind → v ≡ seenIn text table reals t (w .place) b → r ≡ stepOf (t .phase) b room t v → r ≡ wordStep text table reals room s w
+  pub word-good : f ≡ 0 → (t u : State) (v : Seen) (r : Step) → t ≡ behind → v ≡ seenIn text table reals x t (w .place) b → u ≡ countedIn t (v .looked) → r ≡ stepOf (u .phase) b room u v → r ≡ wordStep text table reals x room s w
   unfolding wordStep
-  word-good h t v r q₁ q₂ q₃ =
-      q₃ ∙ ap (stepOf (t .phase) b room t) q₂ ∙ (λ i. stepOf (q₁ i .phase) (p i) room (q₁ i) (seenIn text table reals (q₁ i) (w .place) (p i)))
-      ∙ sym (ap (λ (z : Bool). cond z (stepOf (s .phase) whole room behind (seenIn text table reals behind (w .place) whole)) (to.Refused (wordFault whole) (w .place))) (eq-eqb (wordFault whole) 0 (sym fault-is ∙ h)))
+  word-good h t u v r q₁ q₂ q₃ q₄ =
+      let seen : v ≡ seenIn text table reals x behind (w .place) whole = q₂ ∙ (λ i. seenIn text table reals x (q₁ i) (w .place) (p i)) in
+      let count : u ≡ countedIn behind (v .looked) = q₃ ∙ ap (λ (z : State). countedIn z (v .looked)) q₁ in
+      q₄ ∙ (λ i. stepOf (count i .phase) (p i) room (count i) v) ∙ (λ i. stepOf (s .phase) whole room (countedIn behind (seen i .looked)) (seen i))
+      ∙ sym (ap (λ (z : Bool). cond z (stepOf (s .phase) whole room (countedIn behind (seenIn text table reals x behind (w .place) whole .looked)) (seenIn text table reals x behind (w .place) whole)) (to.Refused (wordFault whole) (w .place))) (eq-eqb (wordFault whole) 0 (sym fault-is ∙ h)))
 
 pub within : (text : Bytes) (at : ℕ) (w : Word) → w ≡ wordAt text at → w .place + w .len ≤ length text
 within text at w q = subst (λ (z : Word). z .place + z .len ≤ length text) (sym q) (end-most text at)
 
 -- the word w stands next
-module _ (text : Bytes) (table : List ℕ) (reals : List Float) (room : Settings) (s : State) (w : Word) (q : w ≡ wordAt text (s .at)) where
+module _ (text : Bytes) (table : List ℕ) (reals : List Float) (x : List ℕ) (room : Settings) (s : State) (w : Word) (q : w ≡ wordAt text (s .at)) where
   abbrev opened : Opening → Step
-  opened o = openedStep o text table reals room s w
+  opened o = openedStep o text table reals x room s w
 
-  stands : (b : Bool) → eqb (w .len) 0 ≡ b → cond b (endOf (s .phase) (length text)) (opened (openingOf (s .phase) (getD text (w .place) 0))) ≡ nextStep text table reals room s
+  stands : (b : Bool) → eqb (w .len) 0 ≡ b → cond b (endOf (s .phase) (length text)) (opened (openingOf (s .phase) (getD text (w .place) 0))) ≡ nextStep text table reals x room s
   unfolding nextStep
-  stands b h = ap (λ (z : Bool). cond z (endOf (s .phase) (length text)) (opened (openingOf (s .phase) (getD text (w .place) 0)))) (sym h) ∙ ap (standing text table reals room s) q
+  stands b h = ap (λ (z : Bool). cond z (endOf (s .phase) (length text)) (opened (openingOf (s .phase) (getD text (w .place) 0)))) (sym h) ∙ ap (standing text table reals x room s) q
 
-  pub ends : w .len ≡ 0 → (r : Step) → r ≡ endOf (s .phase) (length text) → r ≡ nextStep text table reals room s
+  pub ends : w .len ≡ 0 → (r : Step) → r ≡ endOf (s .phase) (length text) → r ≡ nextStep text table reals x room s
   ends z r e = e ∙ stands true (eq-eqb (w .len) 0 z)
 
-  pub opens : (w .len ≡ 0 → ⊥) → (o : Opening) → openingOf (s .phase) (getD text (w .place) 0) ≡ o → (r : Step) → r ≡ opened o → r ≡ nextStep text table reals room s
+  pub opens : (w .len ≡ 0 → ⊥) → (o : Opening) → openingOf (s .phase) (getD text (w .place) 0) ≡ o → (r : Step) → r ≡ opened o → r ≡ nextStep text table reals x room s
   opens z o h r e = e ∙ sym (ap opened h) ∙ stands false (ne-eqb (w .len) 0 z)
 
-  pub opens-command : (w .len ≡ 0 → ⊥) → openingOf (s .phase) (getD text (w .place) 0) ≡ opening.Command → to.Refused 4 (w .place) ≡ nextStep text table reals room s
+  pub opens-command : (w .len ≡ 0 → ⊥) → openingOf (s .phase) (getD text (w .place) 0) ≡ opening.Command → to.Refused 4 (w .place) ≡ nextStep text table reals x room s
   opens-command z h = opens z opening.Command h (to.Refused 4 (w .place)) refl

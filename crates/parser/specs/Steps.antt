@@ -11,10 +11,10 @@ use Rattle.laws.specs.Runs.{past}
 use Rattle.lexer.specs.Class.{isInLine}
 use Rattle.lexer.specs.Word.{wordAt, wordFault}
 use Rattle.lexer.specs.declared.Word.{Word}
-use Rattle.linker.specs.Seen.{seenIn}
+use Rattle.context.specs.Seen.{seenIn}
 use Rattle.scene.specs.declared.Settings.{Settings}
 use Rattle.statement.specs.Heads.{kindStep, modifierStep, nameStep, targetStep}
-use Rattle.statement.specs.States.{isIdle, movedTo, openingOf}
+use Rattle.statement.specs.States.{countedIn, isIdle, movedTo, openingOf}
 use Rattle.statement.specs.declared.Opening.{Opening}
 use Rattle.statement.specs.declared.Phase.{Phase}
 use Rattle.statement.specs.declared.Seen.{Seen}
@@ -42,23 +42,25 @@ stepOf is.Real w room s v = realStep w (room .reals) s v
 stepOf is.AliasName w room s v = nameStep is.Target w s v
 stepOf is.Target w room s v = targetStep s v
 
--- the step of the word w, taken from the place behind it with what is seen of the tables; a bad word's fault is the reason
-unfoldable pub wordStep : Bytes → List ℕ → List Float → Settings → State → Word → Step
-wordStep text table reals room s w =
+-- the step of the word w, taken from the place behind it with what is seen of the tables, the entries looked at counted; a bad word's
+-- fault is the reason
+unfoldable pub wordStep : Bytes → List ℕ → List Float → (index : List ℕ) → Settings → State → Word → Step
+wordStep text table reals x room s w =
     let b = part text (w .place) (w .len) in
     let t = movedTo s (w .place + w .len + 1) in
-    cond (eqb (wordFault b) 0) (stepOf (s .phase) b room t (seenIn text table reals t (w .place) b)) (to.Refused (wordFault b) (w .place))
+    let v = seenIn text table reals x t (w .place) b in
+    cond (eqb (wordFault b) 0) (stepOf (s .phase) b room (countedIn t (v .looked)) v) (to.Refused (wordFault b) (w .place))
 
 -- the step of what the first byte of w opens: a comment is passed over to its line's end, "4 command"
-abbrev pub openedStep : Opening → Bytes → List ℕ → List Float → Settings → State → Word → Step
-openedStep opening.Comment text table reals room s w = to.Going (movedTo s (past isInLine text (w .place) + 1))
-openedStep opening.Command text table reals room s w = to.Refused 4 (w .place)
-openedStep opening.Word text table reals room s w = wordStep text table reals room s w
+abbrev pub openedStep : Opening → Bytes → List ℕ → List Float → (index : List ℕ) → Settings → State → Word → Step
+openedStep opening.Comment text table reals x room s w = to.Going (movedTo s (past isInLine text (w .place) + 1))
+openedStep opening.Command text table reals x room s w = to.Refused 4 (w .place)
+openedStep opening.Word text table reals x room s w = wordStep text table reals x room s w
 
 -- the step where w stands next: a word of no bytes is the text's end
-abbrev pub standing : Bytes → List ℕ → List Float → Settings → State → Word → Step
-standing text table reals room s w = cond (eqb (w .len) 0) (endOf (s .phase) (length text)) (openedStep (openingOf (s .phase) (getD text (w .place) 0)) text table reals room s w)
+abbrev pub standing : Bytes → List ℕ → List Float → (index : List ℕ) → Settings → State → Word → Step
+standing text table reals x room s w = cond (eqb (w .len) 0) (endOf (s .phase) (length text)) (openedStep (openingOf (s .phase) (getD text (w .place) 0)) text table reals x room s w)
 
 -- the step of what stands next in the text
-unfoldable pub nextStep : Bytes → List ℕ → List Float → Settings → State → Step
-nextStep text table reals room s = standing text table reals room s (wordAt text (s .at))
+unfoldable pub nextStep : Bytes → List ℕ → List Float → (index : List ℕ) → Settings → State → Step
+nextStep text table reals x room s = standing text table reals x room s (wordAt text (s .at))

@@ -49,12 +49,13 @@ fn word_step(
     text: &[u8],
     records: &[u32],
     reals: &[f64],
+    index: &[u32],
     settings: Settings,
     s: State,
     word: Word,
 ) -> Step
     requires { ⌜ word .place + word .len ≤ length (now text) ⌝ }
-    ensures { λ r. ⌜ r ≡ wordStep (now (text .entry)) (now (records .entry)) (now (reals .entry)) settings s word ⌝ }
+    ensures { λ r. ⌜ r ≡ wordStep (now (text .entry)) (now (records .entry)) (now (reals .entry)) (now (index .entry)) settings s word ⌝ }
 {
     let place = word.place;
     let bytes = lexer::part(text, place, word.len);
@@ -63,13 +64,21 @@ fn word_step(
         return Step::Refused(fault as u32, place);
     }
     let t = statement::moved(s, place + word.len + 1);
-    let seen = linker::look(text, records, reals, t, place, bytes);
-    advance(bytes, settings, t, seen)
+    let seen = context::look(text, records, reals, index, t, place, bytes);
+    let counted = statement::counted(t, seen.looked);
+    advance(bytes, settings, counted, seen)
 }
 
 // What the next word, comment or command, or the text's end, comes to.
-pub fn next_step(text: &[u8], records: &[u32], reals: &[f64], settings: Settings, s: State) -> Step
-    ensures { λ r. ⌜ r ≡ nextStep (now (text .entry)) (now (records .entry)) (now (reals .entry)) settings s ⌝ }
+pub fn next_step(
+    text: &[u8],
+    records: &[u32],
+    reals: &[f64],
+    index: &[u32],
+    settings: Settings,
+    s: State,
+) -> Step
+    ensures { λ r. ⌜ r ≡ nextStep (now (text .entry)) (now (records .entry)) (now (reals .entry)) (now (index .entry)) settings s ⌝ }
 {
     let word = lexer::next_word(text, s.at);
     let phase = s.phase;
@@ -83,6 +92,6 @@ pub fn next_step(text: &[u8], records: &[u32], reals: &[f64], settings: Settings
             Step::Going(statement::moved(s, end + 1))
         }
         Opening::Command => Step::Refused(4, place),
-        Opening::Word => word_step(text, records, reals, settings, s, word),
+        Opening::Word => word_step(text, records, reals, index, settings, s, word),
     }
 }

@@ -1,6 +1,7 @@
 pub mod ReadsLaws
-pub mod EndLaws
 pub mod ExchangeLaws
+pub mod IndexedLaws
+pub mod EndLaws
 pub mod LinkLaws
 pub mod ArchiveLaws
 pub mod LineLaws

@@ -4,3 +4,4 @@ pub mod Exchange
 pub mod Links
 pub mod Archive
 pub mod Lines
+pub mod Indexed

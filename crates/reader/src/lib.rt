@@ -1,6 +1,7 @@
-// The scene reader.
+// The scene reader: with no index lent, with a lent one, and with one of its own.
 ghost use mathlib.Core.Path.{_≡_};
 ghost use Rattle.reader.specs.Answer.{Reads};
+ghost use Rattle.reader.specs.Indexed.{ReadsIndexed, answeredShort};
 use driver::End;
 use scene::Mode;
 
@@ -10,12 +11,72 @@ pub enum Answer {
     Refused(u32, usize),
 }
 
-// Reads a scene text, in a mode, into the lent tables.
+// An answer, and how many entries of the index were looked at for it.
+pub struct Indexed {
+    pub answer: Answer,
+    pub looked: u32,
+}
+
+// Reads a scene text, in a mode, into the lent tables, and searches names from the latest record back.
 pub fn read(mode: Mode, text: &[u8], records: &mut [u32], reals: &mut [f64]) -> Answer
     ensures { λ r. ⌜ Reads mode (now (text .entry)) (now (records .entry)) (now (reals .entry)) r (now (records .exit)) (now (reals .exit)) ⌝ }
 {
-    match driver::run(mode, text, records, reals) {
-        End::Accepted(n, k) => Answer::Accepted(n, k),
+    let mut none: [u32; 0] = [];
+    match driver::run(mode, text, records, reals, &mut none) {
+        End::Accepted(n, k, _) => Answer::Accepted(n, k),
         End::Refused(reason, place) => Answer::Refused(reason, place),
     }
+}
+
+// The refusal where an index is too short: a text that is too long comes first.
+fn without_index(len: usize) -> Answer
+    ensures { λ r. ⌜ r ≡ answeredShort len ⌝ }
+{
+    if table::MOST_BYTES < len {
+        return Answer::Refused(1, 0);
+    }
+    Answer::Refused(24, 0)
+}
+
+// Reads a scene text, in a mode, into the lent tables, and searches names by the lent index.
+pub fn read_indexed(
+    mode: Mode,
+    text: &[u8],
+    records: &mut [u32],
+    reals: &mut [f64],
+    index: &mut [u32],
+) -> Indexed
+    ensures { λ r. ⌜ ReadsIndexed mode (now (text .entry)) (now (records .entry)) (now (reals .entry)) (now (index .entry)) r (now (records .exit)) (now (reals .exit)) (now (index .exit)) ⌝ }
+{
+    if index.len() < index::ENTRIES {
+        table::clear_all(records, reals, index);
+        return Indexed {
+            answer: without_index(text.len()),
+            looked: 0,
+        };
+    }
+    match driver::run(mode, text, records, reals, index) {
+        End::Accepted(n, k, looked) => Indexed {
+            answer: Answer::Accepted(n, k),
+            looked,
+        },
+        End::Refused(reason, place) => Indexed {
+            answer: Answer::Refused(reason, place),
+            looked: 0,
+        },
+    }
+}
+
+// The same with an index of its own, for programs that have no use for it afterwards.
+pub fn read_with_own_index(
+    mode: Mode,
+    text: &[u8],
+    records: &mut [u32],
+    reals: &mut [f64],
+) -> Answer
+    ensures { λ r. ⌜ Reads mode (now (text .entry)) (now (records .entry)) (now (reals .entry)) r (now (records .exit)) (now (reals .exit)) ⌝ }
+{
+    let mut index = [0; index::ENTRIES];
+    let r = read_indexed(mode, text, records, reals, &mut index);
+    r.answer
 }

@@ -41,7 +41,7 @@ fn compare<'a>(mode: Mode, left: &'a [u8], right: &'a [u8]) -> bool {
 fn left_refusal(mode: Mode, left: &[u8]) -> Answer {
     let mut records = [0u32; MOST_NUMBERS];
     let mut reals = [0.0f64; MOST_REALS];
-    reader::read(mode, left, &mut records, &mut reals)
+    reader::read_with_own_index(mode, left, &mut records, &mut reals)
 }
 
 // The left text's refusal comes first.

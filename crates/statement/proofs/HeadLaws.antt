@@ -74,6 +74,6 @@ module _ (s : State) (v : Seen) where
   unfolding targetStep
   target-unknown z = rw z
 
-  pub target-known : (v .found ≡ 0 → ⊥) → {d : Draft} → d ≡ withTarget (s .draft) v → to.Complete (record { at = s .at; count = s .count; used = s .used; left = s .left; phase = s .phase; draft = d }) ≡ targetStep s v
+  pub target-known : (v .found ≡ 0 → ⊥) → {d : Draft} → d ≡ withTarget (s .draft) v → to.Complete (record { at = s .at; count = s .count; used = s .used; left = s .left; looked = s .looked; phase = s .phase; draft = d }) ≡ targetStep s v
   unfolding targetStep
-  target-known z {d} g = nonzero (λ n k. to.Complete (record { at = s .at; count = s .count; used = s .used; left = s .left; phase = s .phase; draft = d }) ≡ targetAt s v n) (λ k. rw g) (v .found) z
+  target-known z {d} g = nonzero (λ n k. to.Complete (record { at = s .at; count = s .count; used = s .used; left = s .left; looked = s .looked; phase = s .phase; draft = d }) ≡ targetAt s v n) (λ k. rw g) (v .found) z

@@ -17,7 +17,7 @@ use Rattle.statement.specs.declared.Step.the-variants as to
 
 -- the statement goes on: the next phase, how many words of its kind come after it, and the draft
 abbrev pub goingTo : State → Phase → ℕ → Draft → Step
-goingTo s ph l d = to.Going (record { at = s .at; count = s .count; used = s .used; left = l; phase = ph; draft = d })
+goingTo s ph l d = to.Going (record { at = s .at; count = s .count; used = s .used; left = l; looked = s .looked; phase = ph; draft = d })
 
 -- ---- drafts with a part of them set
 
@@ -60,7 +60,7 @@ nameStep next w s v = cond (same w void) (to.Refused 9 (v .place)) (goingTo s ne
 -- "10 alias target not defined above"
 abbrev pub targetAt : State → Seen → ℕ → Step
 targetAt s v zero = to.Refused 10 (v .place)
-targetAt s v (suc j) = to.Complete (record { at = s .at; count = s .count; used = s .used; left = s .left; phase = s .phase; draft = withTarget (s .draft) v })
+targetAt s v (suc j) = to.Complete (record { at = s .at; count = s .count; used = s .used; left = s .left; looked = s .looked; phase = s .phase; draft = withTarget (s .draft) v })
 
 -- an alias target's word
 unfoldable pub targetStep : State → Seen → Step

@@ -1,6 +1,6 @@
 -- The states between words, and what a byte opens there.
 use mathlib.Core.Bool.{Bool, true, false, cond}
-use Prim.Native.Nat.{ℕ}
+use Prim.Native.Nat.{ℕ, _+_, min}
 use lib.Dec.{eqb}
 use Rattle.laws.specs.Bytes.{byte}
 use Rattle.statement.specs.declared.Draft.{Draft}
@@ -16,11 +16,19 @@ opened l = record { kind = 0; modifier = l; target = 0; name = 0; size = 0; stri
 
 -- a state with its place moved
 abbrev pub movedTo : State → ℕ → State
-movedTo s n = record { at = n; count = s .count; used = s .used; left = s .left; phase = s .phase; draft = s .draft }
+movedTo s n = record { at = n; count = s .count; used = s .used; left = s .left; looked = s .looked; phase = s .phase; draft = s .draft }
+
+-- a number as a record can hold it: those past the largest count as the largest
+abbrev pub clipped : ℕ → ℕ
+clipped n = min n 4294967295
+
+-- a state with so many more entries looked at
+abbrev pub countedIn : State → ℕ → State
+countedIn s k = record { at = s .at; count = s .count; used = s .used; left = s .left; looked = clipped (s .looked + k); phase = s .phase; draft = s .draft }
 
 -- between two statements
-abbrev pub between : ℕ → ℕ → ℕ → State
-between n c u = record { at = n; count = c; used = u; left = 0; phase = is.Idle; draft = opened 0 }
+abbrev pub between : ℕ → ℕ → ℕ → ℕ → State
+between n c u k = record { at = n; count = c; used = u; left = 0; looked = k; phase = is.Idle; draft = opened 0 }
 
 -- whether no statement is open
 unfoldable pub isIdle : Phase → Bool

@@ -1,7 +1,7 @@
 // The open statement, handed on by value, and the steps of the words that begin it and of an alias's target.
 ghost use mathlib.Core.Path.{_≡_};
 ghost use Rattle.statement.specs.Heads.{goingTo, kindStep, modifierStep, nameStep, targetStep, withName, withTarget};
-ghost use Rattle.statement.specs.States.{between, isIdle, movedTo, opened, openingOf};
+ghost use Rattle.statement.specs.States.{between, clipped, countedIn, isIdle, movedTo, opened, openingOf};
 use scene::Mode;
 
 // What the next word is.
@@ -19,20 +19,22 @@ pub enum Phase {
     Target,
 }
 
-// The record of the open statement, as far as it has been read.
+// The record of the open statement, as far as it has been read. Its parts are in the order in which copies of it were measured to be
+// fastest.
 pub struct Draft {
-    pub modifier: u32,
-    pub target: u32,
     pub name: u32,
     pub size: u32,
+    pub kind: u32,
     pub string: u32,
     pub strings: u32,
+    pub target: u32,
     pub real: u32,
+    pub modifier: u32,
     pub reals: u32,
-    pub kind: u32,
 }
 
-// Where reading has come to: records and reals stored, words of this kind left after the next, the open statement.
+// Where reading has come to: records and reals stored, words of this kind left after the next, the open statement, entries of the
+// index looked at.
 pub struct State {
     pub at: usize,
     pub count: usize,
@@ -40,16 +42,18 @@ pub struct State {
     pub left: u32,
     pub phase: Phase,
     pub draft: Draft,
+    pub looked: u32,
 }
 
-// What a word's step looks at beside the word: its place and length, reals stored, the record that its name leads to, and
-// the two reals before.
+// What a word's step looks at beside the word: its place and length, reals stored, the record that its name leads to, how many
+// entries of the index were looked at for it, and the two reals before.
 pub struct Seen {
     pub place: usize,
     pub name: u32,
     pub size: u32,
     pub used: u32,
     pub found: u32,
+    pub looked: u32,
     pub source: Draft,
     pub previous: f64,
     pub first: f64,
@@ -91,14 +95,15 @@ pub fn linked(modifier: u32) -> Draft
 }
 
 // Between two statements.
-pub fn between(at: usize, count: usize, used: usize) -> State
-    ensures { λ r. ⌜ r ≡ between at count used ⌝ }
+pub fn between(at: usize, count: usize, used: usize, looked: u32) -> State
+    ensures { λ r. ⌜ r ≡ between at count used looked ⌝ }
 {
     State {
         at,
         count,
         used,
         left: 0,
+        looked,
         phase: Phase::Idle,
         draft: linked(0),
     }
@@ -110,6 +115,28 @@ pub fn moved(s: State, at: usize) -> State
 {
     let mut t = s;
     t.at = at;
+    t
+}
+
+// A number that a record can hold: those past the largest count as the largest.
+pub fn narrow(n: usize) -> u32
+    ensures { λ r. ⌜ r ≡ clipped n ⌝ }
+{
+    lexer::least(n, 4294967295) as u32
+}
+
+fn wide(n: u32) -> usize
+    ensures { λ r. ⌜ r ≡ n ⌝ }
+{
+    n as usize
+}
+
+// A state with more entries of the index looked at.
+pub fn counted(s: State, looked: u32) -> State
+    ensures { λ r. ⌜ r ≡ countedIn s looked ⌝ }
+{
+    let mut t = s;
+    t.looked = narrow(wide(s.looked) + wide(looked));
     t
 }
 
@@ -145,6 +172,7 @@ pub fn going(s: State, phase: Phase, left: u32, draft: Draft) -> Step
         count: s.count,
         used: s.used,
         left,
+        looked: s.looked,
         phase,
         draft,
     })

@@ -124,12 +124,12 @@ pub fn number_refusal(records: &[u32], count: usize, number: usize) -> u32
     0
 }
 
-fn clear_records(records: &mut [u32])
-    ensures { λ _. ⌜ now (records .exit) ≡ replicate (length (now (records .entry))) 0 ⌝ }
+fn clear_numbers(numbers: &mut [u32])
+    ensures { λ _. ⌜ now (numbers .exit) ≡ replicate (length (now (numbers .entry))) 0 ⌝ }
 {
     let mut i = 0;
-    while i < records.len() {
-        records[i] = 0;
+    while i < numbers.len() {
+        numbers[i] = 0;
         i += 1;
     }
 }
@@ -149,6 +149,16 @@ pub fn clear(records: &mut [u32], reals: &mut [f64])
     ensures { λ _. ⌜ now (records .exit) ≡ replicate (length (now (records .entry))) 0 ⌝ }
     ensures { λ _. ⌜ now (reals .exit) ≡ replicate (length (now (reals .entry))) zeroReal ⌝ }
 {
-    clear_records(records);
+    clear_numbers(records);
     clear_reals(reals);
+}
+
+// Zeroes both tables and an index.
+pub fn clear_all(records: &mut [u32], reals: &mut [f64], index: &mut [u32])
+    ensures { λ _. ⌜ now (records .exit) ≡ replicate (length (now (records .entry))) 0 ⌝ }
+    ensures { λ _. ⌜ now (reals .exit) ≡ replicate (length (now (reals .entry))) zeroReal ⌝ }
+    ensures { λ _. ⌜ now (index .exit) ≡ replicate (length (now (index .entry))) 0 ⌝ }
+{
+    clear(records, reals);
+    clear_numbers(index);
 }

@@ -1,6 +1,7 @@
 //! Scene texts, short and long, well-formed and damaged, and the lengths of the tables that are lent for them.
 
 use super::numerals;
+use crate::reference::index::{hash, INDEX};
 use crate::reference::random::Random;
 use crate::reference::scene::{MOST_REALS, MOST_RECORDS, RECORD};
 
@@ -415,6 +416,42 @@ fn case_in(random: &mut Random, mode: u32) -> Case {
 pub fn case(random: &mut Random) -> Case {
     let mode = mode(random);
     case_in(random, mode)
+}
+
+/// A name of a chosen hash: pairs of letters by the bits of a number, which all have one hash, and two bytes that make up the rest.
+pub fn name_of_hash(wanted: usize, number: usize, pairs: usize) -> Vec<u8> {
+    let pairs = (0..pairs).map(|bit| if number >> bit & 1 == 0 { b"Aa" } else { b"BB" });
+    let mut name: Vec<u8> = pairs.flatten().copied().collect();
+    let stem = 31 * 31 * hash(&name);
+    let mut ends = (33..=126).flat_map(|a| (33..=126).map(move |b| [a, b]));
+    let fits = |&[a, b]: &[u8; 2]| (stem + 31 * usize::from(a) + usize::from(b)) % INDEX == wanted;
+    name.extend(ends.find(fits).expect("two bytes reach every hash"));
+    name
+}
+
+/// A scene in which most names have the same hash or its neighbour, which may be the index's last entry.
+pub fn colliding(random: &mut Random) -> Case {
+    let mode = mode(random);
+    let (mut statements, _) = statements(random, mode);
+    let first = *random.pick(&[0, 1_000, INDEX - 3, INDEX - 2, INDEX - 1]);
+    let names: Vec<_> = (0..16).map(|n| name_of_hash((first + n % 2) % INDEX, n / 2, 3)).collect();
+    let rename = |word: &mut Vec<u8>| {
+        if word != b"void" {
+            *word = names[hash(word) % names.len()].clone();
+        }
+    };
+    for words in &mut statements {
+        let alias = words[1] == b"alias";
+        rename(&mut words[0]);
+        rename(&mut words[2]);
+        if alias {
+            rename(&mut words[3]);
+        }
+    }
+    if random.percent(20) {
+        spoil(random, &mut statements);
+    }
+    laid_out(random, mode, &statements, 0)
 }
 
 /// Statements changed as between two saves: mostly so that they are accepted still.

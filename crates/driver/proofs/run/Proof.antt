@@ -20,13 +20,13 @@ use Rattle.driver.proofs.run.Statement.{statement}
 use Rattle.driver.proofs.run.Tie as tie
 
 abbrev Inv-loop : tie.InvT-loop
-Inv-loop text records₀ reals₀ settings s₀ records reals s = Inv text records reals settings s × (length records ≡ length records₀) × (length reals ≡ length reals₀)
+Inv-loop text records₀ reals₀ index₀ settings s₀ records reals index s = Inv text records reals index settings s × (length records ≡ length records₀) × (length reals ≡ length reals₀) × (length index ≡ length index₀)
 
 abbrev μ-loop : tie.MeasureT-loop
-μ-loop text records₀ reals₀ settings s₀ records reals s = length text + 1 - s .at
+μ-loop text records₀ reals₀ index₀ settings s₀ records reals index s = length text + 1 - s .at
 
-clear-requires : tie.Need-clear-requires Inv-loop μ-loop
-clear-requires c κs = search needs
+clear-all-requires : tie.Need-clear-all-requires Inv-loop μ-loop
+clear-all-requires c κs = search needs
 
 same-length : tie.Need-same-length Inv-loop μ-loop
 same-length c = search needs
@@ -34,12 +34,16 @@ same-length c = search needs
 same-length-2 : tie.Need-same-length-2 Inv-loop μ-loop
 same-length-2 c = search needs
 
+same-length-3 : tie.Need-same-length-3 Inv-loop μ-loop
+same-length-3 c = search needs
+
 returns : tie.Need-returns Inv-loop μ-loop
 unfolding lib.Ieee.ofBits
 returns c =
-    let at-clear = c .before .before .before .before .before in
-    let a = at-clear .before .before .before .before .before .before .args in
-    too-long (a .mode) (a .text .now) (a .records .now) (a .reals .now) _ _ (at-clear .clear .ensures .0) (at-clear .clear .ensures .1) (c .if1 .taken)
+    let at-clear = c .before .before .before .before .before .before .before in
+    let a = at-clear .before .before .before .before .before .before .before .before .args in
+    let cleared = at-clear .clear-all .ensures in
+    too-long (a .mode) (a .text .now) (a .records .now) (a .reals .now) (a .index .now) _ _ _ (cleared .0) (cleared .1 .0) (cleared .1 .1) (c .if1 .taken)
 
 settings-for-requires : tie.Need-settings-for-requires Inv-loop μ-loop
 settings-for-requires c κs = search needs
@@ -51,50 +55,60 @@ loop-holds : tie.Need-loop-holds Inv-loop μ-loop
 unfolding lib.Ieee.ofBits
 loop-holds c =
     let at-if1 = c .before .before in
-    let at-clear = at-if1 .before .before .before .before .before in
-    let a = at-clear .before .before .before .before .before .before .args in
-    (subst (Inv _ _ _ _) (sym (c .between .ensures)) (first-inv _ _ (a .records .now) (a .reals .now) _ _ (at-clear .clear .ensures .0) (at-clear .clear .ensures .1) (at-if1 .if1 .left) _ (c .before .settings-for .ensures)), refl, refl)
+    let at-clear = at-if1 .before .before .before .before .before .before .before in
+    let a = at-clear .before .before .before .before .before .before .before .before .args in
+    let cleared = at-clear .clear-all .ensures in
+    (subst (Inv _ _ _ _ _) (sym (c .between .ensures)) (first-inv _ _ (a .records .now) (a .reals .now) (a .index .now) _ _ _ (cleared .0) (cleared .1 .0) (cleared .1 .1) (at-if1 .if1 .left) _ (c .before .settings-for .ensures)), refl, refl, refl)
 
 -- a turn of the loop, once its step is taken: the text, the tables, the settings and the state, and what holds of them
 module _ (p : tie.After-next-step Inv-loop μ-loop) where
   abbrev mode : Mode
-  mode = p .before .before .before .before .before .before .before .before .before .before .before .before .before .before .before .before .before .args .mode
+  mode = p .before .before .before .before .before .before .before .before .before .before .before .before .before .before .before .before .before .before .before .before .before .before .args .mode
 
   abbrev text : Bytes
-  text = p .before .before .before .before .before .before .before .before .before .before .before .before .before .before .before .before .before .args .text .now
+  text = p .before .before .before .before .before .before .before .before .before .before .before .before .before .before .before .before .before .before .before .before .before .before .args .text .now
 
   abbrev lent-records : List ℕ
-  lent-records = p .before .before .before .before .before .before .before .before .before .before .before .before .before .before .before .before .before .args .records .now
+  lent-records = p .before .before .before .before .before .before .before .before .before .before .before .before .before .before .before .before .before .before .before .before .before .before .args .records .now
 
   abbrev lent-reals : List Float
-  lent-reals = p .before .before .before .before .before .before .before .before .before .before .before .before .before .before .before .before .before .args .reals .now
+  lent-reals = p .before .before .before .before .before .before .before .before .before .before .before .before .before .before .before .before .before .before .before .before .before .before .args .reals .now
+
+  abbrev lent-index : List ℕ
+  lent-index = p .before .before .before .before .before .before .before .before .before .before .before .before .before .before .before .before .before .before .before .before .before .before .args .index .now
 
   abbrev records : List ℕ
-  records = p .before .before .before .loop .records
+  records = p .before .before .before .before .loop .records
 
   abbrev reals : List Float
-  reals = p .before .before .before .loop .reals
+  reals = p .before .before .before .before .loop .reals
+
+  abbrev index : List ℕ
+  index = p .before .before .before .before .loop .index
 
   abbrev settings : Settings
-  settings = p .before .before .before .before .before .settings-for .result
+  settings = p .before .before .before .before .before .before .settings-for .result
 
   abbrev state : State
-  state = p .before .before .before .loop .s
+  state = p .before .before .before .before .loop .s
 
-  inv : Inv text records reals settings state
-  inv = p .before .before .before .loop .inv .0
+  inv : Inv text records reals index settings state
+  inv = p .before .before .before .before .loop .inv .0
 
   in-mode : settings .mode ≡ mode
-  in-mode = ap (λ (z : Settings). z .mode) (p .before .before .before .before .before .settings-for .ensures)
+  in-mode = ap (λ (z : Settings). z .mode) (p .before .before .before .before .before .before .settings-for .ensures)
 
   kept-records : length records ≡ length lent-records
-  kept-records = p .before .before .before .loop .inv .1 ∙ p .before .before .before .before .before .before .before .before .before .before .before .clear .kept .0
+  kept-records = p .before .before .before .before .loop .inv .1 ∙ p .before .before .before .before .before .before .before .before .before .before .before .before .before .before .clear-all .kept .0
 
   kept-reals : length reals ≡ length lent-reals
-  kept-reals = p .before .before .before .loop .inv .2 ∙ p .before .before .before .before .before .before .before .before .before .before .before .clear .kept .1 .0
+  kept-reals = p .before .before .before .before .loop .inv .2 ∙ p .before .before .before .before .before .before .before .before .before .before .before .before .before .before .clear-all .kept .1 .0
 
-  steps-to : (e : Step) → p .next-step .result ≡ e → Ready text records reals settings state e
-  steps-to e q = ready _ _ _ _ _ inv _ _ (p .next-step .ensures) q
+  kept-index : length index ≡ length lent-index
+  kept-index = p .before .before .before .before .loop .inv .3 ∙ p .before .before .before .before .before .before .before .before .before .before .before .before .before .before .clear-all .kept .1 .1 .0
+
+  steps-to : (e : Step) → p .next-step .result ≡ e → Ready text records reals index settings state e
+  steps-to e q = ready _ _ _ _ _ _ inv _ _ (p .next-step .ensures) q
 
 next-step-requires : tie.Need-next-step-requires Inv-loop μ-loop
 next-step-requires c κs = search needs
@@ -103,12 +117,13 @@ enum-known-t : tie.Need-enum-known-t Inv-loop μ-loop
 enum-known-t c = search needs
 
 loop-less : tie.Need-loop-less Inv-loop μ-loop
-loop-less c = let r = steps-to (c .before .before .before) _ (c .before .t .given .1) in gets-on _ _ _ _ _ (r .0) _ (r .1)
+loop-less c = let r = steps-to (c .before .before .before) _ (c .before .t .given .1) in gets-on _ _ _ _ _ _ (r .0) _ (r .1)
 
 loop-again : tie.Need-loop-again Inv-loop μ-loop
 loop-again c =
     let at-step = c .before .before .before in
-    (steps-to at-step _ (c .before .t .given .1) .0, at-step .before .before .before .loop .inv .1, at-step .before .before .before .loop .inv .2)
+    let i = at-step .before .before .before .before .loop .inv in
+    (steps-to at-step _ (c .before .t .given .1) .0, i .1, i .2, i .3)
 
 enum-known-t-2 : tie.Need-enum-known-t-2 Inv-loop μ-loop
 enum-known-t-2 c = search needs
@@ -116,18 +131,19 @@ enum-known-t-2 c = search needs
 mul-reals : tie.Need-mul-reals Inv-loop μ-loop
 mul-reals c =
     let at-step = c .before .before .before in
-    omega (arith, steps-to at-step _ (c .before .t2 .given .1) .0, kept-reals at-step, at-step .before .before .before .before .before .before .before .before .before .before .before .before .before .before .before .before .before .good .1 .1 .1 .0 .1)
+    omega (arith, steps-to at-step _ (c .before .t2 .given .1) .0, kept-reals at-step, at-step .before .before .before .before .before .before .before .before .before .before .before .before .before .before .before .before .before .before .before .before .before .before .good .1 .1 .1 .0 .1)
 
 slice-write-reals : tie.Need-slice-write-reals Inv-loop μ-loop
 slice-write-reals c = steps-to (c .before .before .before) _ (c .before .t2 .given .1) .0
 
 loop-less-2 : tie.Need-loop-less-2 Inv-loop μ-loop
-loop-less-2 c = let r = steps-to (c .before .before .before) _ (c .before .t2 .given .1) .1 _ refl in gets-on _ _ _ _ _ (r .0) _ (r .1)
+loop-less-2 c = let r = steps-to (c .before .before .before) _ (c .before .t2 .given .1) .1 _ refl in gets-on _ _ _ _ _ _ (r .0) _ (r .1)
 
 loop-again-2 : tie.Need-loop-again-2 Inv-loop μ-loop
 loop-again-2 c =
     let at-step = c .before .before .before in
-    (steps-to at-step _ (c .before .t2 .given .1) .1 _ refl .0, at-step .before .before .before .loop .inv .1, simp length-set (at-step .before .before .before .loop .inv .2))
+    let i = at-step .before .before .before .before .loop .inv in
+    (steps-to at-step _ (c .before .t2 .given .1) .1 _ refl .0, i .1, simp length-set (i .2), i .3)
 
 enum-known-t-3 : tie.Need-enum-known-t-3 Inv-loop μ-loop
 enum-known-t-3 c = search needs
@@ -135,7 +151,7 @@ enum-known-t-3 c = search needs
 mul-reals-2 : tie.Need-mul-reals-2 Inv-loop μ-loop
 mul-reals-2 c =
     let at-step = c .before .before .before in
-    omega (arith, steps-to at-step _ (c .before .t3 .given .1) .0, kept-reals at-step, at-step .before .before .before .before .before .before .before .before .before .before .before .before .before .before .before .before .before .good .1 .1 .1 .0 .1)
+    omega (arith, steps-to at-step _ (c .before .t3 .given .1) .0, kept-reals at-step, at-step .before .before .before .before .before .before .before .before .before .before .before .before .before .before .before .before .before .before .before .before .before .before .good .1 .1 .1 .0 .1)
 
 slice-write-reals-2 : tie.Need-slice-write-reals-2 Inv-loop μ-loop
 slice-write-reals-2 c = steps-to (c .before .before .before) _ (c .before .t3 .given .1) .0
@@ -143,23 +159,19 @@ slice-write-reals-2 c = steps-to (c .before .before .before) _ (c .before .t3 .g
 enter-requires : tie.Need-enter-requires Inv-loop μ-loop
 enter-requires c κs = search needs
 
-add-between : tie.Need-add-between Inv-loop μ-loop
-add-between c = omega (arith, steps-to (c .before .before .before .before .before .before .before .before .before) _ (c .before .before .before .before .before .before .before .t3 .given .1) .1)
-
-between-requires-2 : tie.Need-between-requires-2 Inv-loop μ-loop
-between-requires-2 c κs = search needs
-
+-- the statement is entered, behind its last real
 loop-less-3 : tie.Need-loop-less-3 Inv-loop μ-loop
 loop-less-3 c =
-    let at-enter = c .before .before .before .before in
-    let r = steps-to (c .before .before .before .before .before .before .before .before .before .before) _ (c .before .before .before .before .before .before .before .before .t3 .given .1) .2 _ _ _ refl (at-enter .enter .ensures) (at-enter .enter .kept .1 .0) (c .between2 .ensures) in
-    gets-on _ _ _ _ _ (r .0) _ (r .1)
+    let e = c .before .before .before .before .enter in
+    let r = steps-to (c .before .before .before .before .before .before .before .before .before .before) _ (c .before .before .before .before .before .before .before .before .t3 .given .1) .1 _ _ _ _ refl (record { state = e .ensures .0; stored = e .ensures .1 .0; held = e .ensures .1 .1; sized = e .kept .1 .0; spread = e .kept .1 .1 .0 }) in
+    gets-on _ _ _ _ _ _ (r .0) _ (r .1)
 
 loop-again-3 : tie.Need-loop-again-3 Inv-loop μ-loop
 loop-again-3 c =
-    let at-enter = c .before .before .before .before in
-    let r = steps-to (c .before .before .before .before .before .before .before .before .before .before) _ (c .before .before .before .before .before .before .before .before .t3 .given .1) .2 _ _ _ refl (at-enter .enter .ensures) (at-enter .enter .kept .1 .0) (c .between2 .ensures) in
-    (r .0, at-enter .enter .kept .1 .0 ∙ c .before .before .before .before .before .before .before .before .before .before .before .before .before .loop .inv .1, simp length-set (c .before .before .before .before .before .before .before .before .before .before .before .before .before .loop .inv .2))
+    let e = c .before .before .before .before .enter in
+    let i = c .before .before .before .before .before .before .before .before .before .before .before .before .before .before .loop .inv in
+    let r = steps-to (c .before .before .before .before .before .before .before .before .before .before) _ (c .before .before .before .before .before .before .before .before .t3 .given .1) .1 _ _ _ _ refl (record { state = e .ensures .0; stored = e .ensures .1 .0; held = e .ensures .1 .1; sized = e .kept .1 .0; spread = e .kept .1 .1 .0 }) in
+    (r .0, e .kept .1 .0 ∙ i .1, simp length-set (i .2), e .kept .1 .1 .0 ∙ i .3)
 
 enum-known-t-4 : tie.Need-enum-known-t-4 Inv-loop μ-loop
 enum-known-t-4 c = search needs
@@ -167,57 +179,59 @@ enum-known-t-4 c = search needs
 enter-requires-2 : tie.Need-enter-requires-2 Inv-loop μ-loop
 enter-requires-2 c κs = search needs
 
-add-between-2 : tie.Need-add-between-2 Inv-loop μ-loop
-add-between-2 c = omega (arith, steps-to (c .before .before .before .before .before .before .before .before .before) _ (c .before .before .before .before .before .before .before .t4 .given .1) .0)
-
-between-requires-3 : tie.Need-between-requires-3 Inv-loop μ-loop
-between-requires-3 c κs = search needs
-
+-- and without one
 loop-less-4 : tie.Need-loop-less-4 Inv-loop μ-loop
 loop-less-4 c =
-    let at-enter = c .before .before .before .before in
-    let r = steps-to (c .before .before .before .before .before .before .before .before .before .before) _ (c .before .before .before .before .before .before .before .before .t4 .given .1) .1 _ _ (at-enter .enter2 .ensures) (at-enter .enter2 .kept .1 .0) (c .between3 .ensures) in
-    gets-on _ _ _ _ _ (r .0) _ (r .1)
+    let e = c .before .before .before .before .enter2 in
+    let r = steps-to (c .before .before .before .before .before .before .before .before .before .before) _ (c .before .before .before .before .before .before .before .before .t4 .given .1) _ _ _ (record { state = e .ensures .0; stored = e .ensures .1 .0; held = e .ensures .1 .1; sized = e .kept .1 .0; spread = e .kept .1 .1 .0 }) in
+    gets-on _ _ _ _ _ _ (r .0) _ (r .1)
 
 loop-again-4 : tie.Need-loop-again-4 Inv-loop μ-loop
 loop-again-4 c =
-    let at-enter = c .before .before .before .before in
-    let r = steps-to (c .before .before .before .before .before .before .before .before .before .before) _ (c .before .before .before .before .before .before .before .before .t4 .given .1) .1 _ _ (at-enter .enter2 .ensures) (at-enter .enter2 .kept .1 .0) (c .between3 .ensures) in
-    (r .0, at-enter .enter2 .kept .1 .0 ∙ c .before .before .before .before .before .before .before .before .before .before .before .before .before .loop .inv .1, c .before .before .before .before .before .before .before .before .before .before .before .before .before .loop .inv .2)
+    let e = c .before .before .before .before .enter2 in
+    let i = c .before .before .before .before .before .before .before .before .before .before .before .before .before .before .loop .inv in
+    let r = steps-to (c .before .before .before .before .before .before .before .before .before .before) _ (c .before .before .before .before .before .before .before .before .t4 .given .1) _ _ _ (record { state = e .ensures .0; stored = e .ensures .1 .0; held = e .ensures .1 .1; sized = e .kept .1 .0; spread = e .kept .1 .1 .0 }) in
+    (r .0, e .kept .1 .0 ∙ i .1, i .2, e .kept .1 .1 .0 ∙ i .3)
 
 enum-known-reason : tie.Need-enum-known-reason Inv-loop μ-loop
 enum-known-reason c = search needs
 
-clear-requires-2 : tie.Need-clear-requires-2 Inv-loop μ-loop
-clear-requires-2 c κs = search needs
-
-same-length-3 : tie.Need-same-length-3 Inv-loop μ-loop
-same-length-3 c = c .before .before .before .before .clear2 .kept .0 ∙ kept-records (c .before .before .before .before .before .before .before .before .before .before)
+clear-all-requires-2 : tie.Need-clear-all-requires-2 Inv-loop μ-loop
+clear-all-requires-2 c κs = search needs
 
 same-length-4 : tie.Need-same-length-4 Inv-loop μ-loop
-same-length-4 c = c .before .before .before .before .clear2 .kept .1 .0 ∙ kept-reals (c .before .before .before .before .before .before .before .before .before .before)
+same-length-4 c = c .before .before .before .before .before .before .clear-all2 .kept .0 ∙ kept-records (c .before .before .before .before .before .before .before .before .before .before .before .before .before)
+
+same-length-5 : tie.Need-same-length-5 Inv-loop μ-loop
+same-length-5 c = c .before .before .before .before .before .before .clear-all2 .kept .1 .0 ∙ kept-reals (c .before .before .before .before .before .before .before .before .before .before .before .before .before)
+
+same-length-6 : tie.Need-same-length-6 Inv-loop μ-loop
+same-length-6 c = c .before .before .before .before .before .before .clear-all2 .kept .1 .1 .0 ∙ kept-index (c .before .before .before .before .before .before .before .before .before .before .before .before .before)
 
 returns-2 : tie.Need-returns-2 Inv-loop μ-loop
 unfolding lib.Ieee.ofBits
 returns-2 c =
-    let cleared = c .before .before .before .before .clear2 .ensures in
-    let p = c .before .before .before .before .before .before .before .before .before .before in
-    refuses-with (mode p) (text p) (lent-records p) (lent-reals p) _ _ (cleared .0 ∙ ap (λ (n : ℕ). replicate n 0) (kept-records p)) (cleared .1 ∙ ap (λ (n : ℕ). replicate n zeroReal) (kept-reals p)) _ _
-    (reads-as (mode p) (text p) (lent-records p) (lent-reals p) _ _ _ _ (inv p) (in-mode p) (kept-records p) (kept-reals p) ∙ steps-to p _ (c .before .before .before .before .before .before .before .before .reason .given .1))
+    let cleared = c .before .before .before .before .before .before .clear-all2 .ensures in
+    let p = c .before .before .before .before .before .before .before .before .before .before .before .before .before in
+    refuses-with (mode p) (text p) (lent-records p) (lent-reals p) (lent-index p) _ _ _ (cleared .0 ∙ ap (λ (n : ℕ). replicate n 0) (kept-records p)) (cleared .1 .0 ∙ ap (λ (n : ℕ). replicate n zeroReal) (kept-reals p)) (cleared .1 .1 ∙ ap (λ (n : ℕ). replicate n 0) (kept-index p)) _ _
+    (reads-as (mode p) (text p) (lent-records p) (lent-reals p) (lent-index p) _ _ _ _ _ (inv p) (in-mode p) (kept-records p) (kept-reals p) (kept-index p) ∙ steps-to p _ (c .before .before .before .before .before .before .before .before .before .before .before .reason .given .1))
 
 enum-told : tie.Need-enum-told Inv-loop μ-loop
 enum-told c = search needs
 
-same-length-5 : tie.Need-same-length-5 Inv-loop μ-loop
-same-length-5 c = kept-records (c .before .before)
+same-length-7 : tie.Need-same-length-7 Inv-loop μ-loop
+same-length-7 c = kept-records (c .before .before)
 
-same-length-6 : tie.Need-same-length-6 Inv-loop μ-loop
-same-length-6 c = kept-reals (c .before .before)
+same-length-8 : tie.Need-same-length-8 Inv-loop μ-loop
+same-length-8 c = kept-reals (c .before .before)
+
+same-length-9 : tie.Need-same-length-9 Inv-loop μ-loop
+same-length-9 c = kept-index (c .before .before)
 
 returns-3 : tie.Need-returns-3 Inv-loop μ-loop
 returns-3 c =
     let p = c .before .before in
-    ends-accepted (mode p) (text p) (lent-records p) (lent-reals p) _ _ _ _ (inv p) (in-mode p) (kept-records p) (kept-reals p) _ _ (steps-to p _ (c .enum-told .given .1))
+    ends-accepted (mode p) (text p) (lent-records p) (lent-reals p) (lent-index p) _ _ _ _ _ (inv p) (in-mode p) (kept-records p) (kept-reals p) (kept-index p) _ _ _ (steps-to p _ (c .enum-told .given .1))
 
 pub run-spec : {M : Type 1} → statement M
 run-spec =
@@ -225,9 +239,10 @@ run-spec =
     (tie.spec
     Inv-loop
     μ-loop
-    clear-requires
+    clear-all-requires
     same-length
     same-length-2
+    same-length-3
     returns
     settings-for-requires
     between-requires
@@ -245,22 +260,20 @@ run-spec =
     mul-reals-2
     slice-write-reals-2
     enter-requires
-    add-between
-    between-requires-2
     loop-less-3
     loop-again-3
     enum-known-t-4
     enter-requires-2
-    add-between-2
-    between-requires-3
     loop-less-4
     loop-again-4
     enum-known-reason
-    clear-requires-2
-    same-length-3
+    clear-all-requires-2
     same-length-4
-    returns-2
-    enum-told
     same-length-5
     same-length-6
+    returns-2
+    enum-told
+    same-length-7
+    same-length-8
+    same-length-9
     returns-3)

@@ -18,7 +18,7 @@ at-end-requires : tie.Need-at-end-requires
 at-end-requires c κs = search needs
 
 returns : tie.Need-returns
-returns c = ends _ _ _ _ _ _ (c .before .before .before .next-word .ensures) (c .before .if1 .taken) _ (c .at-end .ensures)
+returns c = ends _ _ _ _ _ _ _ (c .before .before .before .next-word .ensures) (c .before .if1 .taken) _ (c .at-end .ensures)
 
 shared-slice-read-opens : tie.Need-shared-slice-read-opens
 shared-slice-read-opens c = omega (arith, within _ _ _ (c .before .before .before .next-word .ensures), c .before .if1 .left)
@@ -35,7 +35,7 @@ line-end-requires c κs = search needs
 add-moved : tie.Need-add-moved
 add-moved c =
     let at-next-word = c .before .before .before .before .before .before .before in
-    let start = at-next-word .before .before .before .before in
+    let start = at-next-word .before .before .before .before .before in
     omega (arith, c .line-end .ensures, past-most isInLine (start .args .text .now) (at-next-word .next-word .result .place), start .good .0 .1)
 
 moved-requires : tie.Need-moved-requires
@@ -53,17 +53,17 @@ word-step-requires c κs = within _ _ _ (c .before .before .before .before .befo
 returns-2 : tie.Need-returns-2
 returns-2 c =
     let at-if1 = c .before .before .before .before .before .before in
-    opens _ _ _ _ _ _ (at-if1 .before .before .next-word .ensures) (at-if1 .if1 .left) _ (sym (c .before .before .before .before .opens .ensures) ∙ c .before .before .enum-told .given .1) _ (ap Going (c .moved .ensures ∙ ap (λ (n : ℕ). movedTo (at-if1 .before .before .before .before .before .before .args .s) (n + 1)) (c .before .line-end .ensures)))
+    opens _ _ _ _ _ _ _ (at-if1 .before .before .next-word .ensures) (at-if1 .if1 .left) _ (sym (c .before .before .before .before .opens .ensures) ∙ c .before .before .enum-told .given .1) _ (ap Going (c .moved .ensures ∙ ap (λ (n : ℕ). movedTo (at-if1 .before .before .before .before .before .before .before .args .s) (n + 1)) (c .before .line-end .ensures)))
 
 returns-3 : tie.Need-returns-3
 returns-3 c =
     let at-if1 = c .before .before .before .before in
-    opens-command _ _ _ _ _ _ (at-if1 .before .before .next-word .ensures) (at-if1 .if1 .left) (sym (c .before .before .opens .ensures) ∙ c .enum-told2 .given .1)
+    opens-command _ _ _ _ _ _ _ (at-if1 .before .before .next-word .ensures) (at-if1 .if1 .left) (sym (c .before .before .opens .ensures) ∙ c .enum-told2 .given .1)
 
 returns-4 : tie.Need-returns-4
 returns-4 c =
     let at-if1 = c .before .before .before .before .before in
-    opens _ _ _ _ _ _ (at-if1 .before .before .next-word .ensures) (at-if1 .if1 .left) _ (sym (c .before .before .before .opens .ensures) ∙ c .before .enum-told3 .given .1) _ (c .word-step .ensures)
+    opens _ _ _ _ _ _ _ (at-if1 .before .before .next-word .ensures) (at-if1 .if1 .left) _ (sym (c .before .before .before .opens .ensures) ∙ c .before .enum-told3 .given .1) _ (c .word-step .ensures)
 
 pub next-step-spec : {M : Type 1} → statement M
 next-step-spec =

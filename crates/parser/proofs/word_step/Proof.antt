@@ -10,11 +10,11 @@ part-requires c κs = search needs
 word-fault-requires : tie.Need-word-fault-requires
 word-fault-requires c κs = search needs
 
-cast-t13 : tie.Need-cast-t13
-cast-t13 c = search needs
+cast-t15 : tie.Need-cast-t15
+cast-t15 c = search needs
 
 returns : tie.Need-returns
-returns c = word-faulty _ _ _ _ _ _ _ _ (c .before .before .part .ensures) (c .before .word-fault .ensures) (c .if1 .taken)
+returns c = word-faulty _ _ _ _ _ _ _ _ _ (c .before .before .part .ensures) (c .before .word-fault .ensures) (c .if1 .taken)
 
 add-moved : tie.Need-add-moved
 add-moved c = search needs
@@ -28,13 +28,16 @@ moved-requires c κs = search needs
 look-requires : tie.Need-look-requires
 look-requires c κs = search needs
 
+counted-requires : tie.Need-counted-requires
+counted-requires c κs = search needs
+
 advance-requires : tie.Need-advance-requires
 advance-requires c κs = search needs
 
 returns-2 : tie.Need-returns-2
 returns-2 c =
-    let at-if1 = c .before .before .before .before in
-    word-good _ _ _ _ _ _ _ _ (at-if1 .before .before .part .ensures) (at-if1 .before .word-fault .ensures) (at-if1 .if1 .left) _ _ _ (c .before .before .moved .ensures) (c .before .look .ensures) (c .advance .ensures)
+    let at-if1 = c .before .before .before .before .before in
+    word-good _ _ _ _ _ _ _ _ _ (at-if1 .before .before .part .ensures) (at-if1 .before .word-fault .ensures) (at-if1 .if1 .left) _ _ _ _ (c .before .before .before .moved .ensures) (c .before .before .look .ensures) (c .before .counted .ensures) (c .advance .ensures)
 
 pub word-step-spec : {M : Type 1} → statement M
 word-step-spec =
@@ -42,11 +45,12 @@ word-step-spec =
     (tie.spec
     part-requires
     word-fault-requires
-    cast-t13
+    cast-t15
     returns
     add-moved
     add-moved-2
     moved-requires
     look-requires
+    counted-requires
     advance-requires
     returns-2)

@@ -1,8 +1,11 @@
 -- `reader::read` meets its contract.
-use borrow.Author.Needs.{needs}
 use Rattle.reader.proofs.EndLaws.{reads-as}
+use borrow.Author.Needs.{needs}
 use Rattle.reader.proofs.read.Statement.{statement}
 use Rattle.reader.proofs.read.Tie as tie
+
+slice-aggregate-run : tie.Need-slice-aggregate-run
+slice-aggregate-run c = search needs
 
 run-requires : tie.Need-run-requires
 run-requires c κs = search needs
@@ -20,7 +23,7 @@ same-length-2 : tie.Need-same-length-2
 same-length-2 c = search needs
 
 returns : tie.Need-returns
-returns c = reads-as _ _ _ _ _ _ _ (c .before .before .before .before .before .before .before .run .ensures) _ (c .before .n .given .1)
+returns c = reads-as _ _ _ _ _ _ _ _ _ (c .before .before .before .before .before .before .before .before .run .ensures) _ (c .before .n .given .1)
 
 same-length-3 : tie.Need-same-length-3
 same-length-3 c = search needs
@@ -29,12 +32,13 @@ same-length-4 : tie.Need-same-length-4
 same-length-4 c = search needs
 
 returns-2 : tie.Need-returns-2
-returns-2 c = reads-as _ _ _ _ _ _ _ (c .before .before .before .before .before .before .before .run .ensures) _ (c .before .reason .given .1)
+returns-2 c = reads-as _ _ _ _ _ _ _ _ _ (c .before .before .before .before .before .before .before .before .run .ensures) _ (c .before .reason .given .1)
 
 pub read-spec : {M : Type 1} → statement M
 read-spec =
     tie.close
     (tie.spec
+    slice-aggregate-run
     run-requires
     enum-known-n
     enum-known-reason

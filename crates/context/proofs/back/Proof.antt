@@ -1,9 +1,9 @@
--- `linker::back` meets its contract.
+-- `context::back` meets its contract.
 use mathlib.Core.Path.{_∙_}
-use Rattle.linker.proofs.TableLaws.{back-some, back-none}
+use Rattle.context.proofs.TableLaws.{back-some, back-none}
 use borrow.Author.Needs.{needs}
-use Rattle.linker.proofs.back.Statement.{statement}
-use Rattle.linker.proofs.back.Tie as tie
+use Rattle.context.proofs.back.Statement.{statement}
+use Rattle.context.proofs.back.Tie as tie
 
 real-at-requires : tie.Need-real-at-requires
 real-at-requires c κs = search needs

@@ -10,7 +10,7 @@ use lib.Ieee.{Float}
 use lib.ListN.{length, length-append, getD, replicate, List·getD-append}
 use lib.Seq.{getD-append-add, getD-at}
 use Rattle.laws.specs.Bytes.{Bytes}
-use Rattle.linker.specs.Seen.{back, draftOf, draftIn}
+use Rattle.context.specs.Seen.{back, draftOf, draftIn}
 use Rattle.statement.specs.declared.Draft.{Draft}
 use Rattle.scene.proofs.FlatLaws.{record-in}
 use Rattle.scene.proofs.TellsLaws.{records-at, tail-length, own, statements-length, source-tail, string-below}

@@ -1,10 +1,10 @@
--- `linker::source_of` meets its contract.
+-- `context::source_of` meets its contract.
 use mathlib.Core.Path.{sym, ap, _∙_}
-use Rattle.linker.proofs.TableLaws.{draft-some}
-use Rattle.linker.specs.Seen.{draftIn}
+use Rattle.context.proofs.TableLaws.{draft-some}
+use Rattle.context.specs.Seen.{draftIn}
 use borrow.Author.Needs.{needs}
-use Rattle.linker.proofs.source_of.Statement.{statement}
-use Rattle.linker.proofs.source_of.Tie as tie
+use Rattle.context.proofs.source_of.Statement.{statement}
+use Rattle.context.proofs.source_of.Tie as tie
 
 linked-requires : tie.Need-linked-requires
 linked-requires c κs = search needs

@@ -1,9 +1,10 @@
--- `linker::look` meets its contract.
+-- `context::look` meets its contract.
 use mathlib.Core.Path.{ap, _∙_}
-use Rattle.linker.specs.Seen.{clipped, draftIn}
+use Rattle.context.specs.Seen.{draftIn}
+use Rattle.statement.specs.States.{clipped}
 use borrow.Author.Needs.{needs}
-use Rattle.linker.proofs.look.Statement.{statement}
-use Rattle.linker.proofs.look.Tie as tie
+use Rattle.context.proofs.look.Statement.{statement}
+use Rattle.context.proofs.look.Tie as tie
 
 look-up-requires : tie.Need-look-up-requires
 look-up-requires c κs = search needs
@@ -32,15 +33,16 @@ back-requires-2 c κs = search needs
 returns : tie.Need-returns
 returns c =
     let at-look-up = c .before .before .before .before .before .before .before in
-    let a = at-look-up .before .before .before .before .before .args in
+    let a = at-look-up .before .before .before .before .before .before .args in
     let l = at-look-up .look-up .ensures in
     λ i. record {
       place = a .place;
       name = c .before .before .before .before .before .before .narrow .ensures i;
       size = c .before .before .before .before .before .narrow2 .ensures i;
       used = c .before .before .before .before .narrow3 .ensures i;
-      found = (c .before .before .before .narrow4 .ensures ∙ ap clipped l) i;
-      source = (c .before .before .source-of .ensures ∙ ap (draftIn (a .records .now)) l) i;
+      found = (c .before .before .before .narrow4 .ensures ∙ ap clipped (l .0)) i;
+      looked = l .1 i;
+      source = (c .before .before .source-of .ensures ∙ ap (draftIn (a .records .now)) (l .0)) i;
       previous = c .before .back .ensures i;
       first = c .back2 .ensures i;
     }

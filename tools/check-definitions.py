@@ -58,6 +58,7 @@ with tempfile.TemporaryDirectory() as folder:
     head += [
         "use mathlib.Core.Bool.{cond}",
         "use mathlib.Core.List.{map}",
+        "use Prim.Native.Nat.{suc}",
         "use lib.Dec.{eqb}",
         "use lib.Ieee.{binary64}",
         "use Rattle.scene.specs.Record.{answer, flat, fields, newlines}",

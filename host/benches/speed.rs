@@ -1,14 +1,14 @@
-//! How fast the library reads, plainly and with an index, beside a reader of the usual kind in Rust and a bare scan of the bytes, on the
-//! same texts in one run.
+//! How fast the library reads, plainly and with an index, beside two readers in Rust, one of the usual kind and one tuned for speed,
+//! and a bare scan of the bytes, on the same texts in one run.
 //!
-//! Each time is the median of several rounds; in each round the four take turns, so that all meet the same state of the machine.
+//! Each time is the median of several rounds; in each round the five take turns, so that all meet the same state of the machine.
 //! All readers clear the whole of their tables first, the index too.
 
 #[path = "../reference/mod.rs"]
 mod reference;
 
 use kribbelsteen::{raw, Mode, INDEX, MOST_BYTES, MOST_PRIMITIVES, MOST_REALS, RECORD};
-use reference::scene;
+use reference::{scene, tuned};
 use std::hint::black_box;
 use std::time::{Duration, Instant};
 
@@ -128,6 +128,10 @@ impl Tables {
         let _ = black_box(scene::read(false, black_box(text), &mut self.records, &mut self.reals));
     }
 
+    fn read_tuned(&mut self, text: &[u8]) {
+        let _ = black_box(tuned::read(false, black_box(text), &mut self.records, &mut self.reals));
+    }
+
     fn holds_what(&self, other: &Tables) -> bool {
         self.records == other.records && self.reals == other.reals
     }
@@ -157,22 +161,25 @@ fn median(mut times: Vec<f64>) -> f64 {
     times[times.len() / 2]
 }
 
-/// Seconds per text: plain, indexed, reference, scan.
-fn measure(text: &[u8]) -> [f64; 4] {
-    let [mut plain, mut indexed, mut theirs] = [(); 3].map(|()| Tables::new());
+/// Seconds per text: plain, indexed, the usual reader, the tuned one, scan.
+fn measure(text: &[u8]) -> [f64; 5] {
+    let [mut plain, mut indexed, mut usual, mut tuned] = [(); 4].map(|()| Tables::new());
     let calls = [
         calls_of(|| plain.read_plainly(text)),
         calls_of(|| indexed.read_indexed(text)),
-        calls_of(|| theirs.read_by_reference(text)),
+        calls_of(|| usual.read_by_reference(text)),
+        calls_of(|| tuned.read_tuned(text)),
         calls_of(|| scan_bytes(text)),
     ];
-    assert!(plain.holds_what(&theirs) && indexed.holds_what(&theirs), "all readers fill the same tables");
-    let mut times = [(); 4].map(|()| Vec::with_capacity(ROUNDS));
+    let all_alike = [&plain, &indexed, &tuned].iter().all(|tables| tables.holds_what(&usual));
+    assert!(all_alike, "all readers fill the same tables");
+    let mut times = [(); 5].map(|()| Vec::with_capacity(ROUNDS));
     for _ in 0..ROUNDS {
         times[0].push(time(calls[0], || plain.read_plainly(text)));
         times[1].push(time(calls[1], || indexed.read_indexed(text)));
-        times[2].push(time(calls[2], || theirs.read_by_reference(text)));
-        times[3].push(time(calls[3], || scan_bytes(text)));
+        times[2].push(time(calls[2], || usual.read_by_reference(text)));
+        times[3].push(time(calls[3], || tuned.read_tuned(text)));
+        times[4].push(time(calls[4], || scan_bytes(text)));
     }
     times.map(median)
 }
@@ -184,23 +191,23 @@ fn report(what: &str, text: &str) {
         raw::read_indexed(Mode::New.number(), text, &mut records, &mut reals, &mut index);
     assert_eq!(reason, 0, "{what} is accepted");
     let times = measure(text);
-    let [plain, indexed, theirs, floor] = times.map(|seconds| seconds * 1e6);
+    let [plain, indexed, usual, tuned, floor] = times.map(|seconds| seconds * 1e6);
     println!(
-        "{what:<17} {:>6} {primitives:>6} {used:>6} {looked:>9} | {plain:>9.2} {indexed:>9.2} {theirs:>9.2} {floor:>7.2} | {:>8.2} {:>8.2}",
+        "{what:<15} {:>5} {primitives:>6} {used:>5} {looked:>7} | {plain:>8.2} {indexed:>8.2} {usual:>8.2} {tuned:>8.2} {floor:>6.2} | {:>8.2} {:>8.2}",
         text.len(),
-        indexed / theirs,
-        plain / theirs,
+        indexed / usual,
+        indexed / tuned,
     );
 }
 
 fn main() {
     println!(
-        "{:<17} {:>6} {:>6} {:>6} {:>9} | {:>9} {:>9} {:>9} {:>7} | {:>8} {:>8}",
-        "", "", "primi-", "", "", "plain", "indexed", "Rust", "scan", "indexed/", "plain/",
+        "{:<15} {:>5} {:>6} {:>5} {:>7} | {:>8} {:>8} {:>8} {:>8} {:>6} | {:>8} {:>8}",
+        "", "", "primi-", "", "", "plain", "indexed", "Rust", "tuned", "scan", "indexed/", "indexed/",
     );
     println!(
-        "{:<17} {:>6} {:>6} {:>6} {:>9} | {:>9} {:>9} {:>9} {:>7} | {:>8} {:>8}",
-        "scene", "bytes", "tives", "reals", "looked", "us", "us", "us", "us", "Rust", "Rust",
+        "{:<15} {:>5} {:>6} {:>5} {:>7} | {:>8} {:>8} {:>8} {:>8} {:>6} | {:>8} {:>8}",
+        "scene", "bytes", "tives", "reals", "looked", "us", "us", "us", "us", "us", "Rust", "tuned",
     );
     report("10 mixed", &room(10));
     report("100 mixed", &room(100));

@@ -3,8 +3,10 @@
 #![allow(dead_code)]
 
 pub mod index;
+pub mod plain;
 pub mod random;
 pub mod rays;
 pub mod saves;
 pub mod scene;
 pub mod tidy;
+pub mod tuned;

@@ -13,8 +13,8 @@ use made::{floats, numerals, scenes};
 use reference::index::{self, INDEX};
 use reference::random::Random;
 use reference::saves::{Comparison, Save};
-use reference::scene::RECORD;
-use reference::{rays, saves, scene, tidy};
+use reference::scene::{Counts, Refused, RECORD};
+use reference::{rays, saves, scene, tidy, tuned};
 use std::collections::BTreeMap;
 use std::fmt::Debug;
 use std::io::Write;
@@ -432,6 +432,152 @@ fn a_short_index_is_refused_after_a_long_text_alone() {
             compare_indexed(&scenes::Case { mode: 0, text: light(b"void", b"a"), records, reals }, entries);
         }
     }
+}
+
+// ---- the tuned reader
+
+/// Reads a scene by both readers of the reference, into tables that hold something, and compares all that comes of it.
+fn compare_tuned(case: &scenes::Case) -> Result<Counts, Refused> {
+    let (mut records, mut reals) = (vec![0xdead_beef; case.records], vec![f64::NAN; case.reals]);
+    let tuned = tuned::read(case.is_archive(), &case.text, &mut records, &mut reals);
+    let (mut expected_records, mut expected_reals) = (vec![1; case.records], vec![1.0; case.reals]);
+    let expected = scene::read(case.is_archive(), &case.text, &mut expected_records, &mut expected_reals);
+    assert_eq!(tuned, expected, "{}", shown(case));
+    assert!(records == expected_records, "records of {}", shown(case));
+    assert!(bits(&reals).eq(bits(&expected_reals)), "reals of {}", shown(case));
+    expected
+}
+
+fn reason_of(answer: Result<Counts, Refused>) -> u32 {
+    answer.map_or_else(|refused| refused.reason, |_| 0)
+}
+
+/// A scene in both modes, in the lent tables; if it is accepted, also in tables just large enough, one entry too short, and empty.
+fn compare_tuned_in_tables(tally: &mut Tally, case: scenes::Case) {
+    let scenes::Case { text, records, reals, .. } = case;
+    for mode in [0, 1] {
+        let mut compare = |records, reals| {
+            let answer = compare_tuned(&scenes::Case { mode, text: text.clone(), records, reals });
+            tally.add(reason_of(answer));
+            answer
+        };
+        if let Ok(used) = compare(records, reals) {
+            let (records, reals) = (RECORD * used.primitives, used.reals);
+            assert_eq!(compare(records, reals), Ok(used), "the room is enough");
+            for (records, reals) in [(records.saturating_sub(1), reals), (records, reals.saturating_sub(1)), (0, 0)] {
+                let _ = compare(records, reals);
+            }
+        }
+    }
+}
+
+#[test]
+fn the_tuned_reader_reads_alike() {
+    let mut random = random(11);
+    let mut any = Tally::new("scenes by the tuned reader");
+    let mut colliding = Tally::new("scenes by the tuned reader whose names collide");
+    for _ in 0..scene_count() / 2 {
+        compare_tuned_in_tables(&mut any, scenes::case(&mut random));
+    }
+    for _ in 0..scene_count() / 8 {
+        compare_tuned_in_tables(&mut colliding, scenes::colliding(&mut random));
+    }
+    any.report(reasons(), 10_000);
+    colliding.report([0, 6, 13], 10_000);
+}
+
+/// All types, an alias and a comment.
+const ALL_TYPES: &[u8] = b"# all\nvoid mixfunc m 4 a b c d 0 1 .5\nm alias t m\n\
+    t source s 0 0 4 0 0 -1 .5\nt sphere s 0 0 4 0 0 0 1\nt bubble s 0 0 4 0 0 0 1e0\nt polygon s 0 0 9 1 2 3 4 5 6 7 8 9\n\
+    t cone s 0 0 8 0 0 0 0 0 1 0 1\nt cup s 0 0 8 0 0 0 0 0 1 1 0\nt cylinder s 0 0 7 0 0 0 0 0 1 .5\n\
+    t tube s 0 0 7 0 0 0 0 0 1 .5\nt ring s 0 0 8 0 0 0 0 0 1 0 1\nvoid light l 0 0 3 1 1 1\nvoid illum i 1 m 0 3 1 1 1\n\
+    void glow g 0 0 4 1 1 1 0\nvoid spotlight l 0 0 7 1 1 1 9 0 0 -1\nvoid mirror r 1 m 0 3 1 1 1\n\
+    void plastic p 0 0 5 .5 .5 .5 0 0\nvoid metal q 0 0 5 .5 .5 .5 0 0\nvoid trans u 0 0 7 1 1 1 0 0 0 0\n\
+    void plastic2 p 4 a b c d 0 6 1 1 1 0 1 2\nvoid metal2 q 4 a b c d 0 6 1 1 1 0 1 2\n\
+    void trans2 u 4 a b c d 0 8 1 1 1 0 1 2 0 0\nvoid dielectric d 0 0 5 1 1 1 1.5 0\n\
+    void interface f 0 0 8 1 1 1 1 1 1 1 1.5\nvoid glass w 0 0 4 1 1 1 1.52\nvoid antimatter x 1 p 0 0\n";
+
+#[test]
+fn the_tuned_reader_meets_limits_alike() {
+    let reason = |text: Vec<u8>| reason_of(compare_tuned(&with_most(text)));
+    assert_eq!([full(1_024), full(1_025)].map(reason), [0, 6]);
+    assert_eq!([65_536, 65_537].map(|len| reason(vec![b'#'; len])), [0, 1]);
+    assert_eq!([64, 65].map(|len| reason(light(b"void", &vec![b'n'; len]))), [0, 3]);
+    let compare = |text: &[u8]| {
+        let case = scenes::Case { mode: 1, text: text.to_vec(), records: 28 * RECORD, reals: 150 };
+        reason_of(compare_tuned(&case))
+    };
+    assert_eq!(compare(ALL_TYPES), 0);
+    // Every beginning, and every byte changed
+    for end in 0..ALL_TYPES.len() {
+        compare(&ALL_TYPES[..end]);
+    }
+    let mut text = ALL_TYPES.to_vec();
+    for at in 0..text.len() {
+        for byte in 0..=255 {
+            text[at] = byte;
+            compare(&text);
+        }
+        text[at] = ALL_TYPES[at];
+    }
+}
+
+/// Types under a house rule, and one that is not, with their strings and how many reals they have.
+const RULED: [(&str, &str, usize); 13] = [
+    ("source", "0", 4),
+    ("sphere", "0", 4),
+    ("cone", "0", 8),
+    ("cup", "0", 8),
+    ("tube", "0", 7),
+    ("ring", "0", 8),
+    ("plastic2", "4 a b c d", 6),
+    ("metal2", "4 a b c d", 6),
+    ("trans2", "4 a b c d", 8),
+    ("dielectric", "0", 5),
+    ("interface", "0", 8),
+    ("glass", "0", 4),
+    ("polygon", "0", 9),
+];
+
+/// A breach goes before every fault behind it, whenever the reader looks for it.
+#[test]
+fn the_tuned_reader_finds_breaches_alike() {
+    let mut random = random(12);
+    let mut tally = Tally::new("house rules by the tuned reader");
+    for _ in 0..scene_count() {
+        let (kind, strings, reals) = *random.pick(&RULED);
+        let mut text = format!("void {kind} n {strings} 0 {reals}");
+        for _ in 0..reals {
+            let fault = random.percent(4);
+            let words = if fault { ["1e23", "1..2", "\u{e9}", "1e5e", "x"] } else { ["0", "1", "2", "-0", "-1"] };
+            text = [&text, *random.pick(&words)].join(" ");
+        }
+        let mut text = text.into_bytes();
+        if random.percent(10) {
+            text.truncate(text.len() - random.below(6));
+        }
+        tally.add(reason_of(compare_tuned(&with_most(text))));
+    }
+    tally.report([0, 2, 5, 14, 15, 16], 10_000);
+}
+
+#[test]
+fn the_tuned_reader_reads_numerals_alike() {
+    let mut random = random(13);
+    let mut tally = Tally::new("numerals by the tuned reader");
+    for _ in 0..float_count() / 2 {
+        let mut word = numerals::any(&mut random).into_bytes();
+        if random.percent(10) {
+            let zeros = 66_usize.saturating_sub(word.len() + random.below(4));
+            word.splice(0..0, vec![b'0'; zeros]);
+        }
+        if random.percent(5) {
+            word.push(*random.pick(b" \n.e0x\x7f"));
+        }
+        let text = [b"void mixfunc m 4 a b c d 0 1 ", word.as_slice()].concat();
+        tally.add(reason_of(compare_tuned(&scenes::Case { mode: 0, text, records: RECORD, reals: 1 })));
+    }
+    tally.report([0, 2, 3, 14, 15], 10_000);
 }
 
 // ---- two saves

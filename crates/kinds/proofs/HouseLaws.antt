@@ -1,98 +1,153 @@
--- A search along the table of house rules. A rule is its type times 100, its real times 10 and what it asks: 240 is real 4 of type
--- 2, above 0.
-use mathlib.Core.Bool.{Bool, true, false, not, _&&_, _||_, true≢false}
-use mathlib.Core.List.{List, [], _∷_, map}
+-- The house rules of each type, as the code tests them, are those of the list.
+use mathlib.Core.Bool.{Bool, true, false, not, _&&_, _||_}
+use mathlib.Core.Logic.{_⊎_, inl, inr}
 use mathlib.Core.Path.{_≡_, refl, sym, ap, _∙_}
-use Prim.Native.Nat.{ℕ, suc, _+_, _≤_, _<_}
-use borrow.Author.Tests.{eq-eqb, eqb-true, ne-eqb, not-true}
-use native.Mathlib.Numerals.{add-one}
-use lib.Dec.{T, leb, ltb, eqb}
+use Prim.Native.Nat.{ℕ, _≤_, _<_}
+use native.Mathlib.Omega.{arith}
+use borrow.Author.Tests.{eqb-true, eqb-false, ne-eqb}
+use lib.Dec.{eqb}
 use lib.Ieee.{Float, lt}
-use lib.Ieee.Bits.{is-true}
-use lib.Ieee.Fits.{and-l, and-r}
-use lib.ListN.{drop, getD, drop-of-length-le, List·getD-map}
-use lib.Seq.{drop-cons}
-use Rattle.laws.proofs.BoolLaws.{not-both}
-use Rattle.laws.specs.Table.{ruled}
+use Rattle.laws.proofs.BoolLaws.{or-false-left, or-false-right}
+use Rattle.laws.proofs.NatLaws.{le-or-lt}
 use Rattle.laws.specs.Bytes.{same}
-use Rattle.scene.specs.HouseRules as rules
 use Rattle.scene.specs.HouseRules.{breachAt, houseRules, isAbove0, isAtLeast0, is0}
 use Rattle.scene.specs.Types.{numberFrom, typeNumber}
-use Rattle.kinds.specs.Rules.{house, houseRule, breached, broken}
+use Rattle.kinds.specs.Rules.{coneBreach, ringBreach}
 
--- the code's table
-abbrev table : List ℕ
-table = 240 ∷ 340 ∷ 770 ∷ 870 ∷ 571 ∷ 581 ∷ 583 ∷ 671 ∷ 681 ∷ 683 ∷ 971 ∷ 982 ∷ 134 ∷ 964 ∷ 2140 ∷ 2240 ∷ 2280 ∷ 2340 ∷ 1850 ∷ 1860 ∷ 1950 ∷ 1960 ∷ 2050 ∷ 2060 ∷ []
+-- the list ends with no rule
+or-none : (b : Bool) → b ≡ (b || false)
+or-none true = refl
+or-none false = refl
 
--- it has the house rules, as antt computes
-table-is : map house table ≡ houseRules
-unfolding houseRule typeNumber numberFrom same
-table-is = refl
+either : (a b : Bool) → (a || b) ≡ true → (a ≡ true) ⊎ (b ≡ true)
+either true b e = inl refl
+either false b e = inr e
 
--- ---- a rule by its number
+-- a number that is none of two, or of three
+neither : (t m n : ℕ) → (eqb t m || eqb t n) ≡ false → (t ≡ m → ⊥) × (t ≡ n → ⊥)
+neither t m n e = (eqb-false t m (or-false-left (eqb t m) (eqb t n) e), eqb-false t n (or-false-right (eqb t m) (eqb t n) e))
 
-module _ (n : ℕ) (x y z : Float) where
-  pub asks-above-0 : n ≡ 0 → not (isAbove0 x) ≡ broken n x y z
-  unfolding houseRule
-  asks-above-0 e = rw (eq-eqb n 0 e)
+above : (t n : ℕ) → n ≤ t → (t ≡ n → ⊥) → n < t
+above t n l h = go (le-or-lt t n)
+  where
+    go : (t ≤ n) ⊎ (n < t) → n < t
+    go (inl m) = absurd (h (omega arith))
+    go (inr m) = m
 
-  module _ (a : n ≡ 0 → ⊥) where
-    pub asks-at-least-0 : n ≡ 1 → not (isAtLeast0 x) ≡ broken n x y z
-    unfolding houseRule
-    asks-at-least-0 e = rw (ne-eqb n 0 a, eq-eqb n 1 e)
+under : (t n : ℕ) → t ≤ n → (t ≡ n → ⊥) → t < n
+under t n l h = go (le-or-lt n t)
+  where
+    go : (n ≤ t) ⊎ (t < n) → t < n
+    go (inl m) = absurd (h (omega arith))
+    go (inr m) = m
 
-    module _ (b : n ≡ 1 → ⊥) where
-      pub asks-above-inner : n ≡ 2 → not (lt y x) ≡ broken n x y z
-      unfolding houseRule
-      asks-above-inner e = rw (ne-eqb n 0 a, ne-eqb n 1 b, eq-eqb n 2 e)
+module _ (t k : ℕ) (x y z : Float) where
+  abbrev breach : ℕ → Bool
+  breach n = breachAt houseRules n k x y z
 
-      module _ (c : n ≡ 2 → ⊥) where
-        pub asks-not-both-0 : n ≡ 3 → (is0 x && is0 y) ≡ broken n x y z
-        unfolding houseRule
-        asks-not-both-0 e = rw (ne-eqb n 0 a, ne-eqb n 1 b, ne-eqb n 2 c, eq-eqb n 3 e)
+  abbrev low : ℕ → Bool
+  low r = eqb r k && not (isAbove0 x)
 
-        pub asks-not-all-0 : (n ≡ 3 → ⊥) → (is0 x && is0 y && is0 z) ≡ broken n x y z
-        unfolding houseRule
-        asks-not-all-0 d = rw (ne-eqb n 0 a, ne-eqb n 1 b, ne-eqb n 2 c, ne-eqb n 3 d)
+  abbrev below : ℕ → Bool
+  below r = eqb r k && not (isAtLeast0 x)
 
--- ---- reals with no rule: the first two, those past the eighth, and those of a polygon and of the types from light to trans
+  -- the types of one rule, of two and of three
+  of-one : (n : ℕ) (b : Bool) → (b || false) ≡ breach n → t ≡ n → b ≡ breach t
+  of-one n b e h = or-none b ∙ e ∙ ap breach (sym h)
 
-abbrev skipped : (t k : ℕ) → Bool
-skipped t k = ltb k 3 || ltb 8 k || eqb t 4 || (leb 10 t && leb t 17)
+  of-two : (n : ℕ) (a b : Bool) → (a || (b || false)) ≡ breach n → t ≡ n → (a || b) ≡ breach t
+  of-two n a b e h = ap (λ (c : Bool). a || c) (or-none b) ∙ e ∙ ap breach (sym h)
 
-other-real : (t k m j : ℕ) → skipped t k ≡ false → skipped m j ≡ true → (eqb t m && eqb k j) ≡ false
-other-real t k m j h g = not-both (eqb t m) (eqb k j) (λ a b. true≢false (sym g ∙ (λ i. skipped (sym (eqb-true t m a) i) (sym (eqb-true k j b) i)) ∙ h))
+  of-three : (n : ℕ) (a b c : Bool) → (a || (b || (c || false))) ≡ breach n → t ≡ n → (a || (b || c)) ≡ breach t
+  of-three n a b c e h = ap (λ (d : Bool). a || (b || d)) (or-none c) ∙ e ∙ ap breach (sym h)
 
-abbrev has-rule : ℕ → rules.House → Bool
-has-rule n h = not (skipped (h .type) (h .real))
+  -- one rule for two types
+  of-pair : (m n : ℕ) (b : Bool) → (b || false) ≡ breach m → (b || false) ≡ breach n → (eqb t m || eqb t n) ≡ true → b ≡ breach t
+  of-pair m n b p q h = go (either (eqb t m) (eqb t n) h)
+    where
+      go : (eqb t m ≡ true) ⊎ (eqb t n ≡ true) → b ≡ breach t
+      go (inl e) = of-one m b p (eqb-true t m e)
+      go (inr e) = of-one n b q (eqb-true t n e)
 
-no-breach : (hs : List rules.House) (i t k : ℕ) (x y z : Float) → T (ruled has-rule i hs) → skipped t k ≡ true → breachAt hs t k x y z ≡ false
-unfolding breachAt
-no-breach [] i t k x y z r g = refl
-no-breach (h ∷ hs) i t k x y z r g =
-    let e = other-real (h .type) (h .real) t k (not-true (skipped (h .type) (h .real)) (is-true (has-rule i h) (and-l (has-rule i h) (ruled has-rule (suc i) hs) r))) g in
-    rw (e, no-breach hs (suc i) t k x y z (and-r (has-rule i h) (ruled has-rule (suc i) hs) r) g)
+  -- ---- surfaces
 
-pub no-rule : (t k : ℕ) (x y z : Float) → skipped t k ≡ true → false ≡ breachAt houseRules t k x y z
-unfolding typeNumber numberFrom same
-no-rule t k x y z h = sym (no-breach houseRules 0 t k x y z tt h)
+  pub source-rule : t ≡ 1 → (eqb 3 k && (is0 x && is0 y && is0 z)) ≡ breach t
+  unfolding breachAt typeNumber numberFrom same
+  source-rule = of-one 1 (eqb 3 k && (is0 x && is0 y && is0 z)) refl
 
--- past the last rule, at a rule that is broken, and past one that is not
-module _ (t k : ℕ) (x y z : Float) (i : ℕ) where
-  pub breach-end : 24 ≤ i → breachAt (drop i houseRules) t k x y z ≡ false
-  unfolding breachAt
-  breach-end h = rw (drop-of-length-le houseRules h)
+  pub sphere-rule : (eqb t 2 || eqb t 3) ≡ true → low 4 ≡ breach t
+  unfolding breachAt typeNumber numberFrom same
+  sphere-rule = of-pair 2 3 (low 4) refl refl
 
-  module _ (d : ℕ) (h : i < 24) where
-    next : drop i houseRules ≡ house (getD table i d) ∷ drop (suc i) houseRules
-    next =
-        drop-cons houseRules i (house d) h
-        ∙ ap (λ (r : rules.House). r ∷ drop (suc i) houseRules) (ap (λ (hs : List rules.House). getD hs i (house d)) (sym table-is) ∙ List·getD-map house table i d)
+  pub cone-rule : (eqb t 5 || eqb t 6) ≡ true → coneBreach k x y ≡ breach t
+  unfolding breachAt typeNumber numberFrom same coneBreach
+  cone-rule h = go (either (eqb t 5) (eqb t 6) h)
+    where
+      go : (eqb t 5 ≡ true) ⊎ (eqb t 6 ≡ true) → coneBreach k x y ≡ breach t
+      go (inl e) = of-three 5 (below 7) (below 8) (eqb 8 k && (is0 x && is0 y)) refl (eqb-true t 5 e)
+      go (inr e) = of-three 6 (below 7) (below 8) (eqb 8 k && (is0 x && is0 y)) refl (eqb-true t 6 e)
 
-    pub breach-hit : breached (getD table i d) t k x y z ≡ true → breachAt (drop i houseRules) t k x y z ≡ true
-    unfolding breachAt
-    breach-hit b = rw (next, b)
+  pub cylinder-rule : (eqb t 7 || eqb t 8) ≡ true → low 7 ≡ breach t
+  unfolding breachAt typeNumber numberFrom same
+  cylinder-rule = of-pair 7 8 (low 7) refl refl
 
-    pub breach-miss : breached (getD table i d) t k x y z ≡ false → breachAt (drop (i + 1) houseRules) t k x y z ≡ breachAt (drop i houseRules) t k x y z
-    unfolding breachAt
-    breach-miss b = rw (next, b, add-one)
+  pub ring-rule : t ≡ 9 → ringBreach k x y z ≡ breach t
+  unfolding breachAt typeNumber numberFrom same ringBreach
+  ring-rule = of-three 9 (below 7) (eqb 8 k && not (lt y x)) (eqb 6 k && (is0 x && is0 y && is0 z)) refl
+
+  -- a polygon has none
+  pub no-surface-rule : t < 10 → (t ≡ 1 → ⊥) → (eqb t 2 || eqb t 3) ≡ false → (eqb t 5 || eqb t 6) ≡ false → (eqb t 7 || eqb t 8) ≡ false → (t ≡ 9 → ⊥) → false ≡ breach t
+  unfolding breachAt typeNumber numberFrom same
+  no-surface-rule l a b c d e = go (le-or-lt t 0)
+    where
+      go : (t ≤ 0) ⊎ (0 < t) → false ≡ breach t
+      go (inl h) = let q : 0 ≡ t = omega arith in ap breach q
+      go (inr h) =
+          let m = neither t 2 3 b in
+          let n = neither t 5 6 c in
+          let o = neither t 7 8 d in
+          let above-1 : 1 < t = above t 1 (omega arith) a in
+          let above-2 : 2 < t = above t 2 (omega arith) (m .0) in
+          let above-3 : 3 < t = above t 3 (omega arith) (m .1) in
+          let to-8 : t < 9 = under t 9 (omega arith) e in
+          let to-7 : t < 8 = under t 8 (omega arith) (o .1) in
+          let to-6 : t < 7 = under t 7 (omega arith) (o .0) in
+          let to-5 : t < 6 = under t 6 (omega arith) (n .1) in
+          let q : 4 ≡ t = omega (arith, under t 5 (omega arith) (n .0)) in
+          ap breach q
+
+  -- ---- other types
+
+  pub rough-rule : (eqb t 18 || eqb t 19 || eqb t 20) ≡ true → (low 5 || low 6) ≡ breach t
+  unfolding breachAt typeNumber numberFrom same
+  rough-rule h = go (either (eqb t 18 || eqb t 19) (eqb t 20) h)
+    where
+      one : (eqb t 18 ≡ true) ⊎ (eqb t 19 ≡ true) → (low 5 || low 6) ≡ breach t
+      one (inl e) = of-two 18 (low 5) (low 6) refl (eqb-true t 18 e)
+      one (inr e) = of-two 19 (low 5) (low 6) refl (eqb-true t 19 e)
+
+      go : ((eqb t 18 || eqb t 19) ≡ true) ⊎ (eqb t 20 ≡ true) → (low 5 || low 6) ≡ breach t
+      go (inl e) = one (either (eqb t 18) (eqb t 19) e)
+      go (inr e) = of-two 20 (low 5) (low 6) refl (eqb-true t 20 e)
+
+  pub index-rule : (eqb t 21 || eqb t 23) ≡ true → low 4 ≡ breach t
+  unfolding breachAt typeNumber numberFrom same
+  index-rule = of-pair 21 23 (low 4) refl refl
+
+  pub indices-rule : t ≡ 22 → (low 4 || low 8) ≡ breach t
+  unfolding breachAt typeNumber numberFrom same
+  indices-rule = of-two 22 (low 4) (low 8) refl
+
+  -- any other has none
+  pub no-other-rule : 10 ≤ t → (eqb t 18 || eqb t 19 || eqb t 20) ≡ false → (eqb t 21 || eqb t 23) ≡ false → (t ≡ 22 → ⊥) → false ≡ breach t
+  unfolding breachAt typeNumber numberFrom same
+  no-other-rule l a b c =
+      let r = neither t 18 19 (or-false-left (eqb t 18 || eqb t 19) (eqb t 20) a) in
+      let s = eqb-false t 20 (or-false-right (eqb t 18 || eqb t 19) (eqb t 20) a) in
+      let q = neither t 21 23 b in
+      rw (ne-eqb 1 t (λ e. omega arith), ne-eqb 2 t (λ e. omega arith), ne-eqb 3 t (λ e. omega arith), ne-eqb 5 t (λ e. omega arith), ne-eqb 6 t (λ e. omega arith), ne-eqb 7 t (λ e. omega arith), ne-eqb 8 t (λ e. omega arith), ne-eqb 9 t (λ e. omega arith), ne-eqb 18 t (λ e. r .0 (sym e)), ne-eqb 19 t (λ e. r .1 (sym e)), ne-eqb 20 t (λ e. s (sym e)), ne-eqb 21 t (λ e. q .0 (sym e)), ne-eqb 22 t (λ e. c (sym e)), ne-eqb 23 t (λ e. q .1 (sym e)))
+
+-- the rules of other types are about one real alone
+pub other-alone : (t k : ℕ) (x y z : Float) → 10 ≤ t → breachAt houseRules t k x x x ≡ breachAt houseRules t k x y z
+unfolding breachAt typeNumber numberFrom same
+other-alone t k x y z l = rw (ne-eqb 1 t (λ e. omega arith), ne-eqb 5 t (λ e. omega arith), ne-eqb 6 t (λ e. omega arith), ne-eqb 9 t (λ e. omega arith))

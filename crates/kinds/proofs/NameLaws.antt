@@ -70,6 +70,11 @@ pub named : (d t : ℕ) → t < 25 → part names (t * 10) (getD lengths t d) �
 unfolding typeName
 named d t h = ap (λ (x : Row). x .0) (row-is (t + 1) t (sym (ap rowNumber (add-one t))) d h)
 
+-- and its length is that name's
+pub name-length : (d t : ℕ) → t < 25 → getD lengths t d ≡ length (typeName (t + 1))
+unfolding typeName
+name-length d t h = ap (λ (x : Row). x .1 .1) (row-is (t + 1) t (sym (ap rowNumber (add-one t))) d h)
+
 -- a search past the last type, at the type that has the name, and past one that has not
 module _ (w : Bytes) (t : ℕ) where
   pub number-end : 25 ≤ t → numberFrom (t + 1) w (drop t types) ≡ 0

@@ -1,11 +1,11 @@
 -- The code's tables: the rows of names, and what the numbers mean.
-use mathlib.Core.Bool.{Bool, _&&_, cond}
+use mathlib.Core.Bool.{Bool, not, _&&_, _||_, cond}
 use mathlib.Core.List.{List, [], _∷_, _++_}
-use Prim.Native.Nat.{ℕ, zero, suc, _-_, _/_, _%_}
+use Prim.Native.Nat.{ℕ, zero, suc, _-_}
 use lib.Dec.{eqb, ltb}
-use lib.Ieee.{Float}
+use lib.Ieee.{Float, lt}
 use Rattle.laws.specs.Bytes.{Bytes}
-use Rattle.scene.specs.HouseRules as rules
+use Rattle.scene.specs.HouseRules.{is0, isAtLeast0}
 use Rattle.scene.specs.Types.{Rule, exactly, orMore, either, corners, any, Kind, types}
 use Rattle.kinds.specs.Names.{padded}
 
@@ -26,16 +26,12 @@ names = spelled types
 unfoldable pub ruleOf : ℕ → Rule
 ruleOf n = cond (ltb n 100) (exactly n) (cond (ltb n 200) (orMore (n - 100)) (cond (eqb n 200) (either 3 4) (cond (eqb n 201) corners any)))
 
--- what a house rule asks
-unfoldable pub houseRule : ℕ → rules.HouseRule
-houseRule n = cond (eqb n 0) rules.above0 (cond (eqb n 1) rules.atLeast0 (cond (eqb n 2) rules.aboveInner (cond (eqb n 3) rules.notBoth0 rules.notAll0)))
+-- ---- house rules, type by type, as the code tests them
 
-abbrev pub broken : ℕ → (x previous first : Float) → Bool
-broken r x y z = rules.breaks (houseRule r) x y z
+-- a cone's or a cup's
+unfoldable pub coneBreach : (count : ℕ) → (x previous : Float) → Bool
+coneBreach k x y = eqb 7 k && not (isAtLeast0 x) || (eqb 8 k && not (isAtLeast0 x) || eqb 8 k && (is0 x && is0 y))
 
--- a house rule: type, real and what it asks
-abbrev pub house : ℕ → rules.House
-house h = record { type = h / 100; real = h / 10 % 10; rule = houseRule (h % 10) }
-
-abbrev pub breached : ℕ → (type count : ℕ) → (x previous first : Float) → Bool
-breached h t k x y z = eqb (h / 100) t && eqb (h / 10 % 10) k && broken (h % 10) x y z
+-- a ring's
+unfoldable pub ringBreach : (count : ℕ) → (x previous first : Float) → Bool
+ringBreach k x y z = eqb 7 k && not (isAtLeast0 x) || (eqb 8 k && not (lt y x) || eqb 6 k && (is0 x && is0 y && is0 z))

@@ -1,11 +1,11 @@
 // The 25 types: their groups, names, counts and house rules.
 ghost use mathlib.Core.Path.{_≡_};
-ghost use Prim.Native.Nat.{_*_, _<_};
+ghost use Prim.Native.Nat.{_*_, _≤_, _<_};
 ghost use Rattle.laws.specs.Bytes.{part};
 ghost use Rattle.scene.specs.HouseRules.{breachAt, houseRules, isAbove0, isAtLeast0, is0};
 ghost use Rattle.scene.specs.Types.{allows, isMaterial, isModifier, isRetired, isSurface, realsAllowed, stringsAllowed, typeName, typeNumber};
 ghost use Rattle.kinds.specs.Names.{padded};
-ghost use Rattle.kinds.specs.Rules.{breached, broken, names, rowNumber, ruleOf};
+ghost use Rattle.kinds.specs.Rules.{coneBreach, names, ringBreach, rowNumber, ruleOf};
 use scene::Mode;
 
 // A name: ten bytes, and how many of them, from the first on, are its own.
@@ -139,8 +139,6 @@ const SPHERE: u32 = 2;
 
 const BUBBLE: u32 = 3;
 
-const POLYGON: u32 = 4;
-
 const CONE: u32 = 5;
 
 const CUP: u32 = 6;
@@ -152,8 +150,6 @@ const TUBE: u32 = 8;
 const RING: u32 = 9;
 
 const LIGHT: u32 = 10;
-
-const TRANS: u32 = 17;
 
 const PLASTIC2: u32 = 18;
 
@@ -168,45 +164,6 @@ const INTERFACE: u32 = 22;
 const GLASS: u32 = 23;
 
 const ANTIMATTER: u32 = 24;
-
-// What a house rule asks of a real, of it and the one before, or of it and the two before.
-const ABOVE_0: u32 = 0;
-
-const AT_LEAST_0: u32 = 1;
-
-const ABOVE_INNER: u32 = 2;
-
-const NOT_BOTH_0: u32 = 3;
-
-const NOT_ALL_0: u32 = 4;
-
-// A type, which of its reals completes a breach, counted from 1, and the rule, as one number.
-const HOUSES: [u32; 24] = [
-    SPHERE * 100 + 4 * 10 + ABOVE_0,
-    BUBBLE * 100 + 4 * 10 + ABOVE_0,
-    CYLINDER * 100 + 7 * 10 + ABOVE_0,
-    TUBE * 100 + 7 * 10 + ABOVE_0,
-    CONE * 100 + 7 * 10 + AT_LEAST_0,
-    CONE * 100 + 8 * 10 + AT_LEAST_0,
-    CONE * 100 + 8 * 10 + NOT_BOTH_0,
-    CUP * 100 + 7 * 10 + AT_LEAST_0,
-    CUP * 100 + 8 * 10 + AT_LEAST_0,
-    CUP * 100 + 8 * 10 + NOT_BOTH_0,
-    RING * 100 + 7 * 10 + AT_LEAST_0,
-    RING * 100 + 8 * 10 + ABOVE_INNER,
-    SOURCE * 100 + 3 * 10 + NOT_ALL_0,
-    RING * 100 + 6 * 10 + NOT_ALL_0,
-    DIELECTRIC * 100 + 4 * 10 + ABOVE_0,
-    INTERFACE * 100 + 4 * 10 + ABOVE_0,
-    INTERFACE * 100 + 8 * 10 + ABOVE_0,
-    GLASS * 100 + 4 * 10 + ABOVE_0,
-    PLASTIC2 * 100 + 5 * 10 + ABOVE_0,
-    PLASTIC2 * 100 + 6 * 10 + ABOVE_0,
-    METAL2 * 100 + 5 * 10 + ABOVE_0,
-    METAL2 * 100 + 6 * 10 + ABOVE_0,
-    TRANS2 * 100 + 5 * 10 + ABOVE_0,
-    TRANS2 * 100 + 6 * 10 + ABOVE_0,
-];
 
 // Whether a type is a surface.
 pub fn is_surface(t: u32) -> bool
@@ -283,10 +240,13 @@ pub fn type_number(word: &[u8]) -> u32
     let names = NAMES; // laid out once
     let lengths = LENGTHS;
     let mut t: usize = 0;
-    while t < 25 {
+    'search: while t < 25 {
         let place = t * 10;
         let len = lengths[t];
         t += 1;
+        if word.len() != len {
+            continue 'search;
+        }
         if lexer::same(word, lexer::part(&names, place, len)) {
             return t as u32;
         }
@@ -352,49 +312,71 @@ fn is_0(x: f64) -> bool
     x == 0.0
 }
 
-fn breaks(rule: u32, x: f64, previous: f64, first: f64) -> bool
-    ensures { λ r. ⌜ r ≡ broken rule x previous first ⌝ }
+// Whether real number `count` of a cone or a cup breaks a house rule.
+fn breaks_cone(count: u32, x: f64, previous: f64) -> bool
+    ensures { λ r. ⌜ r ≡ coneBreach count x previous ⌝ }
 {
-    if rule == ABOVE_0 {
-        return !is_above_0(x);
-    }
-    if rule == AT_LEAST_0 {
-        return !is_at_least_0(x);
-    }
-    if rule == ABOVE_INNER {
-        return !(previous < x);
-    }
-    if rule == NOT_BOTH_0 {
-        return is_0(x) & is_0(previous);
-    }
-    is_0(x) & is_0(previous) & is_0(first)
+    let low = !is_at_least_0(x);
+    let flat = is_0(x) & is_0(previous);
+    ((7 == count) & low) | (((8 == count) & low) | ((8 == count) & flat))
 }
 
-fn breaks_house(house: u32, t: u32, count: u32, x: f64, previous: f64, first: f64) -> bool
-    ensures { λ r. ⌜ r ≡ breached house t count x previous first ⌝ }
+// Whether real number `count` of a ring does.
+fn breaks_ring(count: u32, x: f64, previous: f64, first: f64) -> bool
+    ensures { λ r. ⌜ r ≡ ringBreach count x previous first ⌝ }
 {
-    if (house / 100 != t) | (house / 10 % 10 != count) {
-        return false;
-    }
-    breaks(house % 10, x, previous, first)
+    let low = !is_at_least_0(x);
+    let narrow = !(previous < x);
+    let none = is_0(x) & is_0(previous) & is_0(first);
+    ((7 == count) & low) | (((8 == count) & narrow) | ((6 == count) & none))
 }
 
-// Whether real number `count` of a type, after `previous` and before that `first`, breaks a house rule. Most reals have none: they
-// are passed over before the table.
+// Whether a surface's does.
+fn surface_breaches(t: u32, count: u32, x: f64, previous: f64, first: f64) -> bool
+    requires { ⌜ t < 10 ⌝ }
+    ensures { λ r. ⌜ r ≡ breachAt houseRules t count x previous first ⌝ }
+{
+    if t == SOURCE {
+        return (3 == count) & (is_0(x) & is_0(previous) & is_0(first));
+    }
+    if (t == SPHERE) | (t == BUBBLE) {
+        return (4 == count) & !is_above_0(x);
+    }
+    if (t == CONE) | (t == CUP) {
+        return breaks_cone(count, x, previous);
+    }
+    if (t == CYLINDER) | (t == TUBE) {
+        return (7 == count) & !is_above_0(x);
+    }
+    if t == RING {
+        return breaks_ring(count, x, previous, first);
+    }
+    false
+}
+
+// Whether that of any other type does.
+fn other_breaches(t: u32, count: u32, x: f64) -> bool
+    requires { ⌜ 10 ≤ t ⌝ }
+    ensures { λ r. ⌜ r ≡ breachAt houseRules t count x x x ⌝ }
+{
+    if (t == PLASTIC2) | (t == METAL2) | (t == TRANS2) {
+        return ((5 == count) & !is_above_0(x)) | ((6 == count) & !is_above_0(x));
+    }
+    if (t == DIELECTRIC) | (t == GLASS) {
+        return (4 == count) & !is_above_0(x);
+    }
+    if t == INTERFACE {
+        return ((4 == count) & !is_above_0(x)) | ((8 == count) & !is_above_0(x));
+    }
+    false
+}
+
+// Whether real number `count` of a type, after `previous` and before that `first`, breaks a house rule.
 pub fn breaches(t: u32, count: u32, x: f64, previous: f64, first: f64) -> bool
     ensures { λ r. ⌜ r ≡ breachAt houseRules t count x previous first ⌝ }
 {
-    if (count < 3) | (8 < count) | (t == POLYGON) | ((LIGHT <= t) & (t <= TRANS)) {
-        return false;
+    if t < LIGHT {
+        return surface_breaches(t, count, x, previous, first);
     }
-    let houses = HOUSES; // laid out once
-    let mut i = 0;
-    while i < 24 {
-        let house = houses[i];
-        if breaks_house(house, t, count, x, previous, first) {
-            return true;
-        }
-        i += 1;
-    }
-    false
+    other_breaches(t, count, x)
 }

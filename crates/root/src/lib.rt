@@ -1,8 +1,8 @@
 // The root of a double from its bit pattern, one binary digit at a time, by shifts, sums and differences of whole numbers.
-ghost use mathlib.Core.Bool.{false};
+ghost use mathlib.Core.Bool.{cond, false};
 ghost use mathlib.Core.Path.{_≡_};
 ghost use Prim.Native.Nat.{_+_, _*_, _^_, _<_, _≤_};
-ghost use lib.Dec.{T};
+ghost use lib.Dec.{T, leb};
 ghost use lib.Ieee.{odd};
 ghost use lib.Ieee.Positive.{positive};
 ghost use Rattle.root.specs.Digits.{Found, OneMore};
@@ -16,6 +16,20 @@ struct Digits {
     number: u64,
 }
 
+// What the next digit takes off: the trial where there is room for it. Trial and digit are chosen by value: no processor foretells
+// the digits of a root, and a wrong guess costs more than four digits.
+fn taken_off(trial: u64, rest: u64) -> u64
+    ensures { λ r. ⌜ r ≡ cond (leb trial rest) trial 0 ⌝ }
+{
+    if trial <= rest { trial } else { 0 }
+}
+
+fn digit_of(trial: u64, rest: u64) -> u64
+    ensures { λ r. ⌜ r ≡ cond (leb trial rest) 1 0 ⌝ }
+{
+    if trial <= rest { 1 } else { 0 }
+}
+
 // The next digit is 1 where the root with it squares to no more than what is brought down: where what is left has room for 4 * root + 1.
 fn next_digit(d: Digits) -> Digits
     requires { ⌜ Found d × (d .found < 53) ⌝ }
@@ -25,18 +39,10 @@ fn next_digit(d: Digits) -> Digits
     let number = (d.number - (pair << 52)) << 2;
     let rest = (d.rest << 2) + pair;
     let trial = (d.root << 2) + 1;
-    if trial <= rest {
-        return Digits {
-            root: (d.root << 1) + 1,
-            found: d.found + 1,
-            rest: rest - trial,
-            number,
-        };
-    }
     Digits {
-        root: d.root << 1,
+        root: (d.root << 1) + digit_of(trial, rest),
         found: d.found + 1,
-        rest,
+        rest: rest - taken_off(trial, rest),
         number,
     }
 }

@@ -1,11 +1,17 @@
 -- `root::next_digit` meets its contract.
+use mathlib.Core.Bool.{Bool, true, false, cond}
+use mathlib.Core.Logic.{_⊎_, inl, inr}
 use mathlib.Core.Path.{_≡_, refl, sym, ap, _∙_, subst}
 use Prim.Native.Nat.{ℕ, _+_, _-_, _*_, _/_, _%_, _^_, _≤_, _<_}
-use native.Mathlib.Nat.{pow-suc, lt-of-lt-of-le}
+use native.Mathlib.Nat.{add-zero, lt-of-lt-of-le, pow-suc, sub-zero}
 use native.Mathlib.Numerals.{add-one}
 use native.Mathlib.Omega.{arith}
 use borrow.Author.Needs.{needs}
+use borrow.Author.Tests.{le-leb, lt-leb}
+use lib.Dec.{leb}
 use lib.Pow.{pow-mono}
+use Rattle.laws.proofs.BoolLaws.{cond-elim}
+use Rattle.laws.proofs.NatLaws.{le-or-lt}
 use Rattle.root.specs.declared.Digits.{Digits}
 use Rattle.root.specs.Digits.{Found, OneMore}
 use Rattle.root.proofs.RootLaws.{square-next, square-twice}
@@ -35,6 +41,40 @@ none s rest pair s' rest' b h p t e f =
     let d : s' ≡ s * 2 = omega arith in
     let r : rest' ≡ 4 * rest + pair = omega arith in
     (omega arith, omega arith, sum-none _ _ _ _ _ (ap (λ (z : ℕ). z * z) d ∙ square-twice s) r)
+
+-- the digit and what it takes off, by whether there is room for the trial
+chosen : (s rest pair g t s' rest' : ℕ) → s < 2 ^ 53 → rest ≤ s * 2 → pair < 4
+    → g ≡ cond (leb (s * 4 % 2 ^ 64 + 1) (rest * 4 % 2 ^ 64 + pair)) 1 0 → t ≡ cond (leb (s * 4 % 2 ^ 64 + 1) (rest * 4 % 2 ^ 64 + pair)) (s * 4 % 2 ^ 64 + 1) 0
+    → s' ≡ s * 2 % 2 ^ 64 + g → rest' ≡ rest * 4 % 2 ^ 64 + pair - t → Next s rest pair s' rest'
+chosen s rest pair g t s' rest' b h p eg et e f = go (le-or-lt trial left)
+  where
+    trial : ℕ
+    trial = s * 4 % 2 ^ 64 + 1
+
+    left : ℕ
+    left = rest * 4 % 2 ^ 64 + pair
+
+    go : (trial ≤ left) ⊎ (left < trial) → Next s rest pair s' rest'
+    go (inl l) =
+        let room : leb trial left ≡ true = le-leb trial left l in
+        let g1 : g ≡ 1 = eg ∙ ap (λ (c : Bool). cond c 1 0) room in
+        let t1 : t ≡ trial = et ∙ ap (λ (c : Bool). cond c trial 0) room in
+        one s rest pair s' rest' b h p l (e ∙ ap (λ (n : ℕ). s * 2 % 2 ^ 64 + n) g1) (f ∙ ap (λ (n : ℕ). left - n) t1)
+    go (inr l) =
+        let none-left : leb trial left ≡ false = lt-leb trial left l in
+        let g0 : g ≡ 0 = eg ∙ ap (λ (c : Bool). cond c 1 0) none-left in
+        let t0 : t ≡ 0 = et ∙ ap (λ (c : Bool). cond c trial 0) none-left in
+        none s rest pair s' rest' b h p l (e ∙ ap (λ (n : ℕ). s * 2 % 2 ^ 64 + n) g0 ∙ add-zero (s * 2 % 2 ^ 64)) (f ∙ ap (λ (n : ℕ). left - n) t0 ∙ sub-zero left)
+
+digit-most : (g : ℕ) (b : Bool) → g ≡ cond b 1 0 → g ≤ 1
+digit-most g b e = omega (arith, e, cond-elim (λ (n : ℕ). n ≤ 1) b {x = 1} {y = 0} (omega arith) (omega arith))
+
+taken-most : (t a b : ℕ) → t ≡ cond (leb a b) a 0 → t ≤ b
+taken-most t a b e = go (le-or-lt a b)
+  where
+    go : (a ≤ b) ⊎ (b < a) → t ≤ b
+    go (inl l) = let q : t ≡ a = e ∙ ap (λ (c : Bool). cond c a 0) (le-leb a b l) in omega arith
+    go (inr l) = let q : t ≡ 0 = e ∙ ap (λ (c : Bool). cond c a 0) (lt-leb a b l) in omega arith
 
 -- ---- the two leading digits of w are brought down
 pair-small : (w : ℕ) → w < 2 ^ 54 → w / 2 ^ 52 < 4
@@ -76,30 +116,30 @@ add-rest c = search needs
 add-trial : tie.Need-add-trial
 add-trial c = search needs
 
-add-t10 : tie.Need-add-t10
-add-t10 c = search needs
+digit-of-requires : tie.Need-digit-of-requires
+digit-of-requires c κs = search needs
 
-add-t11 : tie.Need-add-t11
-add-t11 c = search needs
+add-t8 : tie.Need-add-t8
+add-t8 c =
+    let start = c .before .before .before .before .before .before in
+    let d = start .args .d in
+    omega (arith, digit-most _ (leb (d .root * 4 % 2 ^ 64 + 1) (d .rest * 4 % 2 ^ 64 + d .number / 2 ^ 52)) (c .digit-of .ensures), root-53 d (start .pre .0) (start .pre .1))
+
+add-t9 : tie.Need-add-t9
+add-t9 c = search needs
+
+taken-off-requires : tie.Need-taken-off-requires
+taken-off-requires c κs = search needs
+
+sub-t11 : tie.Need-sub-t11
+sub-t11 c = taken-most _ _ _ (c .taken-off .ensures)
 
 returns : tie.Need-returns
 returns c =
-    let at = c .before .before in
-    let start = at .before .before .before .before .before in
+    let start = c .before .before .before .before .before .before .before .before in
     let d = start .args .d in
     let f = start .pre .0 in
-    more d _ f refl refl (one (d .root) (d .rest) (d .number / 2 ^ 52) _ _ (root-53 d f (start .pre .1)) (f .rest-small) (pair-small (d .number) (f .number-small)) (omega (arith, at .if1 .taken)) refl refl)
-
-add-t7 : tie.Need-add-t7
-add-t7 c = search needs
-
-returns-2 : tie.Need-returns-2
-returns-2 c =
-    let at = c .before .before in
-    let start = at .before .before .before .before .before in
-    let d = start .args .d in
-    let f = start .pre .0 in
-    more d _ f refl refl (none (d .root) (d .rest) (d .number / 2 ^ 52) _ _ (root-53 d f (start .pre .1)) (f .rest-small) (pair-small (d .number) (f .number-small)) (omega (arith, at .if1 .left)) refl refl)
+    more d _ f refl refl (chosen (d .root) (d .rest) (d .number / 2 ^ 52) _ _ _ _ (root-53 d f (start .pre .1)) (f .rest-small) (pair-small (d .number) (f .number-small)) (c .before .before .digit-of .ensures) (c .taken-off .ensures) refl refl)
 
 pub next-digit-spec : {M : Type 1} → statement M
-next-digit-spec = tie.close (tie.spec sub-number add-rest add-trial add-t10 add-t11 returns add-t7 returns-2)
+next-digit-spec = tie.close (tie.spec sub-number add-rest add-trial digit-of-requires add-t8 add-t9 taken-off-requires sub-t11 returns)

@@ -1,0 +1,76 @@
+//! Ray hits and Fresnel values of the usual kind, to measure against: the formulas as they stand, with no checked steps. Neither an
+//! input nor a step is tested, so what the library refuses comes out as a miss, as NaN or as some number.
+//!
+//! The root is given, so that the same formula can be timed with the processor's, `f64::sqrt`, and with another.
+
+type Vector = [f64; 3];
+
+fn dot(a: Vector, b: Vector) -> f64 {
+    a[0] * b[0] + a[1] * b[1] + a[2] * b[2]
+}
+
+fn minus(a: Vector, b: Vector) -> Vector {
+    [a[0] - b[0], a[1] - b[1], a[2] - b[2]]
+}
+
+fn along(o: Vector, t: f64, d: Vector) -> Vector {
+    [o[0] + t * d[0], o[1] + t * d[1], o[2] + t * d[2]]
+}
+
+/// Where a ray, origin and direction, hits a sphere, centre and radius.
+pub fn sphere(ray: &[f64; 6], sphere: &[f64; 4], root: impl Fn(f64) -> f64) -> Option<f64> {
+    let &[ox, oy, oz, dx, dy, dz] = ray;
+    let &[cx, cy, cz, r] = sphere;
+    let d = [dx, dy, dz];
+    let p = minus([ox, oy, oz], [cx, cy, cz]);
+    let a = dot(d, d);
+    let b = dot(p, d);
+    let discriminant = b * b - a * (dot(p, p) - r * r);
+    if discriminant < 0.0 {
+        return None;
+    }
+    let e = root(discriminant);
+    let near = (-b - e) / a;
+    if near > 0.0 {
+        return Some(near);
+    }
+    let far = (-b + e) / a;
+    (far > 0.0).then_some(far)
+}
+
+/// Where a ray hits a ring: centre, normal, inner and outer radius.
+pub fn ring(ray: &[f64; 6], ring: &[f64; 8]) -> Option<f64> {
+    let &[ox, oy, oz, dx, dy, dz] = ray;
+    let &[cx, cy, cz, nx, ny, nz, inner, outer] = ring;
+    let (o, d, c, n) = ([ox, oy, oz], [dx, dy, dz], [cx, cy, cz], [nx, ny, nz]);
+    let m = dot(d, n);
+    if m == 0.0 {
+        return None;
+    }
+    let t = dot(minus(c, o), n) / m;
+    if t <= 0.0 {
+        return None;
+    }
+    let w = minus(along(o, t, d), c);
+    let s = dot(w, w);
+    (inner * inner <= s && s <= outer * outer).then_some(t)
+}
+
+/// The square of (a-b)/(a+b).
+fn coefficient(a: f64, b: f64) -> f64 {
+    let q = (a - b) / (a + b);
+    q * q
+}
+
+/// Fresnel's coefficients, none for total reflection.
+pub fn fresnel(cos1: f64, n1: f64, n2: f64, root: impl Fn(f64) -> f64) -> Option<[f64; 3]> {
+    let k = n1 / n2;
+    let u = 1.0 - k * k * (1.0 - cos1 * cos1);
+    if u < 0.0 {
+        return None;
+    }
+    let cos2 = root(u);
+    let te = coefficient(n1 * cos1, n2 * cos2);
+    let tm = coefficient(n1 * cos2, n2 * cos1);
+    Some([te, tm, 0.5 * te + 0.5 * tm])
+}

@@ -48,12 +48,26 @@ draftIn table (suc j) = draftOf (recordIn table (suc j))
 unfoldable pub back : List Float → ℕ → ℕ → Float
 back reals u j = cond (leb j u) (getD reals (u - j) zeroReal) zeroReal
 
+-- that real where the word is one: no other step looks at the reals before
+unfoldable pub realBefore : Phase → List Float → ℕ → ℕ → Float
+realBefore is.Idle reals u j = zeroReal
+realBefore is.Kind reals u j = zeroReal
+realBefore is.Name reals u j = zeroReal
+realBefore is.StringCount reals u j = zeroReal
+realBefore is.FirstString reals u j = zeroReal
+realBefore is.LaterString reals u j = zeroReal
+realBefore is.IntegerCount reals u j = zeroReal
+realBefore is.RealCount reals u j = zeroReal
+realBefore is.Real reals u j = back reals u j
+realBefore is.AliasName reals u j = zeroReal
+realBefore is.Target reals u j = zeroReal
+
 -- a word's place and length, u reals stored, the record and the reals that a step may look at, and the k entries looked at for it
-abbrev pub seenBy : List ℕ → List Float → (place len u found k : ℕ) → Seen
-seenBy table reals place len u found k = record { place = place; name = clipped place; size = clipped len; used = clipped u; found = clipped found; looked = k; source = draftIn table found; previous = back reals u 1; first = back reals u 2 }
+abbrev pub seenBy : List ℕ → List Float → Phase → (place len u found k : ℕ) → Seen
+seenBy table reals ph place len u found k = record { place = place; name = clipped place; size = clipped len; used = clipped u; found = clipped found; looked = k; source = draftIn table found; previous = realBefore ph reals u 1; first = realBefore ph reals u 2 }
 
 -- the same from the state, with the look-up of the word done
 abbrev pub seenIn : Bytes → List ℕ → List Float → (index : List ℕ) → State → (place : ℕ) → (word : Bytes) → Seen
 seenIn text table reals x s place w =
     let f = sought text table x (s .count) w in
-    seenBy table reals place (length w) (s .used) (lookedFor (s .phase) w (f .number)) (lookedFor (s .phase) w (f .looked))
+    seenBy table reals (s .phase) place (length w) (s .used) (lookedFor (s .phase) w (f .number)) (lookedFor (s .phase) w (f .looked))

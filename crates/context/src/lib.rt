@@ -1,6 +1,6 @@
 // What a step may look at beside its word: the record that a name leads to, and the two reals before.
 ghost use mathlib.Core.Path.{_≡_};
-ghost use Rattle.context.specs.Seen.{back, draftIn, isLookedUp, lookedFor, seenIn};
+ghost use Rattle.context.specs.Seen.{back, draftIn, isLookedUp, lookedFor, realBefore, seenIn};
 ghost use Rattle.index.specs.Searches.{sought};
 use index::Found;
 use statement::Draft;
@@ -76,6 +76,16 @@ fn back(reals: &[f64], used: usize, j: usize) -> f64
     0.0
 }
 
+// The same where the word is a real: no other step looks at the reals before.
+fn real_before(phase: Phase, reals: &[f64], used: usize, j: usize) -> f64
+    ensures { λ r. ⌜ r ≡ realBefore phase (now (reals .entry)) used j ⌝ }
+{
+    if let Phase::Real = phase {
+        return back(reals, used, j);
+    }
+    0.0
+}
+
 // What a step may look at beside the word, which stands at `place`.
 pub fn look(
     text: &[u8],
@@ -99,7 +109,7 @@ pub fn look(
         found: narrow(number),
         looked: found.looked,
         source: source_of(records, number),
-        previous: back(reals, s.used, 1),
-        first: back(reals, s.used, 2),
+        previous: real_before(phase, reals, s.used, 1),
+        first: real_before(phase, reals, s.used, 2),
     }
 }

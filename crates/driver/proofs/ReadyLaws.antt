@@ -18,7 +18,7 @@ use Rattle.driver.specs.Invariant.{AtWord, Entered, Inv}
 use Rattle.laws.specs.Bytes.{Bytes, part, same}
 use Rattle.lexer.specs.Word.{wordFault}
 use Rattle.context.proofs.SeenLaws.{FoundAs, breach-is, found-as}
-use Rattle.context.specs.Seen.{back, draftIn, isLookedUp, lookedFor, seenBy, seenIn}
+use Rattle.context.specs.Seen.{draftIn, isLookedUp, lookedFor, realBefore, seenBy, seenIn}
 use Rattle.index.proofs.TableLaws.{finds-looked, finds-number}
 use Rattle.index.specs.Lent.{countOpen, lent, lookedBy, tally}
 use Rattle.index.specs.Searches.{sought}
@@ -42,6 +42,7 @@ use Rattle.scene.specs.Record.{realTable, width, filled, records, flat}
 use Rattle.scene.specs.Statement.{Statement, numbers, void}
 use Rattle.scene.specs.declared.Settings.{Settings}
 use Rattle.statement.specs.States.{between, clipped, countedIn, movedTo}
+use Rattle.statement.specs.declared.Phase.{Phase as CodePhase}
 use Rattle.statement.specs.declared.Seen.{Seen}
 use Rattle.statement.specs.declared.State.{State}
 use Rattle.statement.specs.declared.Phase.the-variants as is
@@ -160,8 +161,8 @@ module _ (text : Bytes) (table : List ℕ) (reals : List Float) (index : List �
 
   -- as the code's values stand when the phase is ph
   sees : (ph : Phase) → ph ≡ I .phase → (f j : ℕ) → f ≡ lookedFor (behind ph .phase) w (X .number)
-      → Sees (length index) room es (I .places) (s .at) w (stored ph) f j (draftIn table f) (back reals (stored ph) 1) (back reals (stored ph) 2) ph
-  unfolding isLookedUp
+      → Sees (length index) room es (I .places) (s .at) w (stored ph) f j (draftIn table f) (realBefore (behind ph .phase) reals (stored ph) 1) (realBefore (behind ph .phase) reals (stored ph) 2) ph
+  unfolding isLookedUp realBefore
   sees idle q f j g = λ h. known f (g ∙ ap (λ (b : Bool). cond (not b) (X .number) 0) h)
   sees (busy m atType) q f j g = tt
   sees (busy m (atName t)) q f j g = tt
@@ -182,32 +183,32 @@ module _ (text : Bytes) (table : List ℕ) (reals : List Float) (index : List �
   sees (busy m (atTarget n)) q f j g = known f g
 
   -- what is seen of a word, u reals stored, f looked up and j entries looked at, before its numbers are clipped
-  abbrev plain : (u f j : ℕ) → Seen
-  plain u f j = record { place = s .at; name = s .at; size = length w; used = u; found = f; looked = j; source = draftIn table f; previous = back reals u 1; first = back reals u 2 }
+  abbrev plain : CodePhase → (u f j : ℕ) → Seen
+  plain c u f j = record { place = s .at; name = s .at; size = length w; used = u; found = f; looked = j; source = draftIn table f; previous = realBefore c reals u 1; first = realBefore c reals u 2 }
 
   small : (n : ℕ) → n ≤ 65536 → n ≡ clipped n
   small n h = omega arith
 
-  plain-seen : (u f j : ℕ) → u ≤ 4096 → f ≤ 1024 → plain u f j ≡ seenBy table reals (s .at) (length w) u f j
-  plain-seen u f j hu hf =
+  plain-seen : (c : CodePhase) (u f j : ℕ) → u ≤ 4096 → f ≤ 1024 → plain c u f j ≡ seenBy table reals c (s .at) (length w) u f j
+  plain-seen c u f j hu hf =
       let e = word-fits text table reals index room s len W in
       let short = I .short in
       let l = word-length text table reals index room s len W in
-      λ i. record { place = s .at; name = small (s .at) (omega arith) i; size = small (length w) (omega arith) i; used = small u (omega arith) i; found = small f (omega arith) i; looked = j; source = draftIn table f; previous = back reals u 1; first = back reals u 2 }
+      λ i. record { place = s .at; name = small (s .at) (omega arith) i; size = small (length w) (omega arith) i; used = small u (omega arith) i; found = small f (omega arith) i; looked = j; source = draftIn table f; previous = realBefore c reals u 1; first = realBefore c reals u 2 }
 
   -- the state that the step is taken from
   abbrev from : (f j : ℕ) → Phase → State
-  from f j ph = taking (length index) room es (I .places) (s .at) w (stored ph) f j (draftIn table f) (back reals (stored ph) 1) (back reals (stored ph) 2) ph
+  from f j ph = taking (length index) room es (I .places) (s .at) w (stored ph) f j (draftIn table f) (realBefore (behind ph .phase) reals (stored ph) 1) (realBefore (behind ph .phase) reals (stored ph) 2) ph
 
   -- what the step from t says of it
   abbrev Steps : Phase → State → Seen → Type 0
   Steps ph t v = Goes (length index) (suc (s .at + length w)) es ph (wordEnded room (s .at) w ph (I .places) es) (stepOf (t .phase) w room t v)
 
-  steps : wordFault w ≡ 0 → (ph : Phase) → ph ≡ I .phase → (u : ℕ) → u ≡ stored ph → (f j : ℕ) → f ≡ lookedFor (behind ph .phase) w (X .number) → Steps ph (from f j ph) (seenBy table reals (s .at) (length w) u f j)
+  steps : wordFault w ≡ 0 → (ph : Phase) → ph ≡ I .phase → (u : ℕ) → u ≡ stored ph → (f j : ℕ) → f ≡ lookedFor (behind ph .phase) w (X .number) → Steps ph (from f j ph) (seenBy table reals (behind ph .phase) (s .at) (length w) u f j)
   steps fine ph q u v f j g =
-      subst (Steps ph (from f j ph)) (plain-seen u f j (omega (arith, v, ap (λ (z : Phase). length (openReals z)) q, used-is text table reals index room s I, used-room text table reals index room s I .1)) few)
-      (subst (λ (u : ℕ). Steps ph (from f j ph) (plain u f j)) (sym v)
-      (follows (length index) room es (I .places) (s .at) w (stored ph) f j (draftIn table f) (back reals (stored ph) 1) (back reals (stored ph) 2) ph (sees ph q f j g) fine))
+      subst (Steps ph (from f j ph)) (plain-seen (behind ph .phase) u f j (omega (arith, v, ap (λ (z : Phase). length (openReals z)) q, used-is text table reals index room s I, used-room text table reals index room s I .1)) few)
+      (subst (λ (u : ℕ). Steps ph (from f j ph) (plain (behind ph .phase) u f j)) (sym v)
+      (follows (length index) room es (I .places) (s .at) w (stored ph) f j (draftIn table f) (realBefore (behind ph .phase) reals (stored ph) 1) (realBefore (behind ph .phase) reals (stored ph) 2) ph (sees ph q f j g) fine))
     where
       few : f ≤ 1024
       few = omega (arith, g, cond-elim (λ n. n ≤ 1024) (isLookedUp (behind ph .phase) w) {x = X .number} {y = 0} (omega (arith, finds-here, latest-le w d, count-few text table reals index room s I)) (omega arith))

@@ -2,7 +2,8 @@
 use mathlib.Core.Bool.{Bool, true, false, cond}
 use mathlib.Core.List.{List, [], _∷_, _++_}
 use mathlib.Core.Path.{_≡_, refl, ap, sym, _∙_}
-use Prim.Native.Nat.{ℕ, zero, suc, _+_, _-_, _*_, _%_, _≤_, _<_}
+use Prim.Native.Nat.{ℕ, zero, suc, _+_, _-_, _*_, _/_, _%_, _≤_, _<_}
+use native.Mathlib.Nat.{add-mul-mod-self-left}
 use native.Mathlib.Numerals.{add-one}
 use native.Mathlib.Omega.{arith}
 use borrow.Author.Tests.{eq-eqb, ne-eqb, le-leb, lt-leb}
@@ -12,13 +13,60 @@ use Rattle.laws.proofs.BoolLaws.{cond-elim}
 use Rattle.laws.proofs.TableLaws.{padded}
 use Rattle.laws.specs.Bytes.{Bytes, same}
 use Rattle.index.specs.Index.{hash, hashFrom, lookedAt, passed, place, searched, seek, stops}
-use Rattle.index.specs.Searches.{foundPlain, sought}
+use Rattle.index.specs.Searches.{Hashed, foundPlain, sought}
 use Rattle.index.specs.declared.Found.{Found}
 use Rattle.scene.specs.Record.{nameIn}
 
 pub hash-step : (h : ℕ) (w : Bytes) (i : ℕ) → i < length w → hashFrom h (drop i w) ≡ hashFrom ((31 * h + getD w i 0) % 2048) (drop (i + 1) w)
 unfolding hashFrom
 hash-step h w i l = rw (add-one, drop-cons w i 0 l)
+
+-- two steps are one, and four are
+mod-31 : (x b : ℕ) → (31 * (x % 2048) + b) % 2048 ≡ (31 * x + b) % 2048
+mod-31 x b = sym (add-mul-mod-self-left (31 * (x % 2048) + b) 2048 (31 * (x / 2048))) ∙ (let e : 31 * (x % 2048) + b + 2048 * (31 * (x / 2048)) ≡ 31 * x + b = omega arith in ap (λ (n : ℕ). n % 2048) e)
+
+mod-961 : (x b : ℕ) → (961 * (x % 2048) + b) % 2048 ≡ (961 * x + b) % 2048
+mod-961 x b = sym (add-mul-mod-self-left (961 * (x % 2048) + b) 2048 (961 * (x / 2048))) ∙ (let e : 961 * (x % 2048) + b + 2048 * (961 * (x / 2048)) ≡ 961 * x + b = omega arith in ap (λ (n : ℕ). n % 2048) e)
+
+two-steps : (h a b : ℕ) → (31 * ((31 * h + a) % 2048) + b) % 2048 ≡ (961 * h + 31 * a + b) % 2048
+two-steps h a b = mod-31 (31 * h + a) b ∙ (let e : 31 * (31 * h + a) + b ≡ 961 * h + 31 * a + b = omega arith in ap (λ (n : ℕ). n % 2048) e)
+
+two-pairs : (h p q : ℕ) → (961 * ((961 * h + p) % 2048) + q) % 2048 ≡ (923521 * h + 961 * p + q) % 2048
+two-pairs h p q = mod-961 (961 * h + p) q ∙ (let e : 961 * (961 * h + p) + q ≡ 923521 * h + 961 * p + q = omega arith in ap (λ (n : ℕ). n % 2048) e)
+
+four-steps : (h a b c d : ℕ) → (31 * ((31 * ((31 * ((31 * h + a) % 2048) + b) % 2048) + c) % 2048) + d) % 2048 ≡ (923521 * h + 29791 * a + 961 * b + 31 * c + d) % 2048
+four-steps h a b c d =
+    let k : ℕ = (31 * ((31 * h + a) % 2048) + b) % 2048 in
+    let e : k ≡ (961 * h + (31 * a + b)) % 2048 = two-steps h a b ∙ (let q : 961 * h + 31 * a + b ≡ 961 * h + (31 * a + b) = omega arith in ap (λ (n : ℕ). n % 2048) q) in
+    two-steps k c d
+    ∙ (let q : 961 * k + 31 * c + d ≡ 961 * k + (31 * c + d) = omega arith in ap (λ (n : ℕ). n % 2048) q)
+    ∙ ap (λ (n : ℕ). (961 * n + (31 * c + d)) % 2048) e
+    ∙ two-pairs h (31 * a + b) (31 * c + d)
+    ∙ (let q : 923521 * h + 961 * (31 * a + b) + (31 * c + d) ≡ 923521 * h + 29791 * a + 961 * b + 31 * c + d = omega arith in ap (λ (n : ℕ). n % 2048) q)
+
+module _ (w : Bytes) where
+  pub hashed-none : Hashed w 0 0
+  hashed-none = record { small = omega arith; rest = refl }
+
+  pub hashed-four : (h i g : ℕ) → i + 4 ≤ length w → Hashed w h i → g ≡ (923521 * h + 29791 * getD w i 0 + 961 * getD w (i + 1) 0 + 31 * getD w (i + 2) 0 + getD w (i + 3) 0) % 2048 → Hashed w g (i + 4)
+  hashed-four h i g l H e =
+      let n1 : i + 1 + 1 ≡ i + 2 = omega arith in
+      let n2 : i + 2 + 1 ≡ i + 3 = omega arith in
+      let n3 : i + 3 + 1 ≡ i + 4 = omega arith in
+      let h1 : ℕ = (31 * h + getD w i 0) % 2048 in
+      let h2 : ℕ = (31 * h1 + getD w (i + 1) 0) % 2048 in
+      let h3 : ℕ = (31 * h2 + getD w (i + 2) 0) % 2048 in
+      let s1 = hash-step h w i (omega arith) in
+      let s2 = hash-step h1 w (i + 1) (omega arith) ∙ ap (λ (n : ℕ). hashFrom h2 (drop n w)) n1 in
+      let s3 = hash-step h2 w (i + 2) (omega arith) ∙ ap (λ (n : ℕ). hashFrom h3 (drop n w)) n2 in
+      let s4 = hash-step h3 w (i + 3) (omega arith) ∙ ap (λ (n : ℕ). hashFrom ((31 * h3 + getD w (i + 3) 0) % 2048) (drop n w)) n3 in
+      record {
+        small = omega (arith, e);
+        rest = ap (λ (n : ℕ). hashFrom n (drop (i + 4) w)) (e ∙ sym (four-steps h (getD w i 0) (getD w (i + 1) 0) (getD w (i + 2) 0) (getD w (i + 3) 0))) ∙ sym (s1 ∙ s2 ∙ s3 ∙ s4) ∙ H .rest;
+      }
+
+  pub hashed-step : (h i g : ℕ) → i < length w → Hashed w h i → g ≡ (31 * h + getD w i 0) % 2048 → Hashed w g (i + 1)
+  hashed-step h i g l H e = record { small = omega (arith, e); rest = ap (λ (n : ℕ). hashFrom n (drop (i + 1) w)) e ∙ sym (hash-step h w i l) ∙ H .rest }
 
 pub hash-end : (h : ℕ) (w : Bytes) (i : ℕ) → length w ≤ i → hashFrom h (drop i w) ≡ h
 unfolding hashFrom

@@ -2,13 +2,13 @@
 use mathlib.Core.Bool.{_&&_, cond}
 use mathlib.Core.List.{List}
 use mathlib.Core.Path.{_≡_}
-use Prim.Native.Nat.{ℕ, zero, suc, _/_, _≤_, min}
+use Prim.Native.Nat.{ℕ, zero, suc, _/_, _≤_, _<_, min}
 use lib.Dec.{leb}
-use lib.ListN.{length}
+use lib.ListN.{length, drop}
 use Rattle.laws.specs.Bytes.{Bytes, same}
 use Rattle.lookup.specs.Lookup.{latestIn}
 use Rattle.scene.specs.Record.{nameIn, width}
-use Rattle.index.specs.Index.{Primitives, searched}
+use Rattle.index.specs.Index.{Primitives, hash, hashFrom, searched}
 use Rattle.index.specs.declared.Found.{Found}
 
 -- the plain search: its number, no entry looked at, and the entry behind the last
@@ -28,3 +28,8 @@ pub record Alike (p p′ : Primitives) (n : ℕ) : Type 0 where
 unfoldable pub latestOf : Primitives → Bytes → ℕ → ℕ
 latestOf p w zero = 0
 latestOf p w (suc n) = cond (p .gives (suc n) && same w (p .name (suc n))) (suc n) (latestOf p w n)
+
+-- the hash of a name is h with the bytes from place i on
+pub record Hashed (w : Bytes) (h i : ℕ) : Type 0 where
+  pub small : h < 2048
+  pub rest : hashFrom h (drop i w) ≡ hash w

@@ -1,10 +1,10 @@
 // The hashed index of names, and the one search that every look-up goes through: by the index where one of 2,048 entries is lent,
 // else from the latest record back.
 ghost use mathlib.Core.Path.{_≡_};
-ghost use Prim.Native.Nat.{_≤_};
+ghost use Prim.Native.Nat.{_+_, _*_, _%_, _≤_, _<_};
 ghost use lib.ListN.{length, set};
 ghost use Rattle.index.specs.Index.{hash, searched, size, stops};
-ghost use Rattle.index.specs.Searches.{sought};
+ghost use Rattle.index.specs.Searches.{Hashed, sought};
 ghost use Rattle.scene.specs.Record.{nameIn};
 
 // How many entries of an index are used.
@@ -30,12 +30,36 @@ fn small(b: u8) -> usize
     b as usize
 }
 
+// A name's hash with four bytes more: four steps of the rule in one.
+fn with_four(h: usize, a: u8, b: u8, c: u8, d: u8) -> usize
+    requires { ⌜ h < size ⌝ }
+    ensures { λ r. ⌜ r ≡ (923521 * h + 29791 * a + 961 * b + 31 * c + d) % 2048 ⌝ }
+{
+    (923521 * h + 29791 * small(a) + 961 * small(b) + 31 * small(c) + small(d)) % ENTRIES
+}
+
+// The hash of so many times four bytes of a name.
+fn by_fours(word: &[u8], fours: usize) -> usize
+    requires { ⌜ fours * 4 ≤ length (now word) ⌝ }
+    ensures { λ r. ⌜ Hashed (now (word .entry)) r (fours * 4) ⌝ }
+{
+    let mut h: usize = 0;
+    let mut i = 0;
+    while i < fours {
+        let at = i * 4;
+        h = with_four(h, word[at], word[at + 1], word[at + 2], word[at + 3]);
+        i += 1;
+    }
+    h
+}
+
 // A name's hash.
 fn hash(word: &[u8]) -> usize
     ensures { λ r. ⌜ r ≡ hash (now (word .entry)) ⌝ }
 {
-    let mut h: usize = 0;
-    let mut i = 0;
+    let fours = word.len() / 4;
+    let mut h = by_fours(word, fours);
+    let mut i = fours * 4;
     while i < word.len() {
         h = (31 * h + small(word[i])) % ENTRIES;
         i += 1;

@@ -18,7 +18,7 @@ blank-low b e = go (leb 9 b) (leb b 13) refl (eqb b 32) refl e
     go false q h true k e = omega (arith, eqb-true b 32 k)
     go false q h false k e = absurd (mathlib.Core.Bool.false≢true e)
 
-blank-not-good : (b : ℕ) → isBlank b ≡ true → isGood b ≡ false
+pub blank-not-good : (b : ℕ) → isBlank b ≡ true → isGood b ≡ false
 unfolding isGood
 blank-not-good b e = let h = blank-low b e in rw (lt-leb 33 b (omega arith))
 

@@ -1,3 +1,4 @@
 pub mod ClassLaws
 pub mod SameLaws
 pub mod WordLaws
+pub mod CheckedLaws

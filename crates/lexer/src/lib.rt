@@ -1,10 +1,12 @@
 // The bytes and words of a text.
+ghost use mathlib.Core.Bool.{cond};
 ghost use mathlib.Core.Path.{_≡_};
 ghost use Prim.Native.Nat.{min};
+ghost use lib.Dec.{leb};
 ghost use Rattle.laws.specs.Bytes.{part, same};
 ghost use Rattle.laws.specs.Runs.{all, past};
 ghost use Rattle.lexer.specs.Class.{classOf, isBlank, isGood, isInLine, isOther, isRun};
-ghost use Rattle.lexer.specs.Word.{wordAt, wordBytes, wordEnd, wordFault};
+ghost use Rattle.lexer.specs.Word.{checkedAt, endsWord, wordAt, wordBytes, wordEnd, wordFault};
 
 pub const BLANK: u8 = 0;
 
@@ -426,4 +428,67 @@ pub fn word_fault(word: &[u8]) -> u8
         return 3;
     }
     0
+}
+
+// A word with the reason for refusing it by its bytes, 0 for none.
+pub struct Checked {
+    pub place: usize,
+    pub len: usize,
+    pub fault: u8,
+}
+
+// The first place from `at` on whose byte is not good in a word, or the text's length.
+fn good_end(text: &[u8], at: usize) -> usize
+    ensures { λ r. ⌜ r ≡ past isGood (now (text .entry)) at ⌝ }
+{
+    let mut i = at;
+    while i < text.len() {
+        if !is_good(text[i]) {
+            return i;
+        }
+        i += 1;
+    }
+    text.len()
+}
+
+// Whether no word goes on at a place: a blank or the text's end is there.
+fn ends_word(text: &[u8], at: usize) -> bool
+    ensures { λ r. ⌜ r ≡ endsWord (now (text .entry)) at ⌝ }
+{
+    if text.len() <= at {
+        return true;
+    }
+    is_blank(text[at])
+}
+
+// 3 for a word of over 64 bytes, else 0.
+fn long_fault(len: usize) -> u8
+    ensures { λ r. ⌜ r ≡ cond (leb len 64) 0 3 ⌝ }
+{
+    if 64 < len {
+        return 3;
+    }
+    0
+}
+
+// The next word from `at` on and its fault. A good word is gone over once.
+pub fn checked_word(text: &[u8], at: usize) -> Checked
+    ensures { λ r. ⌜ r ≡ checkedAt (now (text .entry)) at ⌝ }
+{
+    let place = skip_blanks(text, at);
+    let end = good_end(text, place);
+    if ends_word(text, end) {
+        let len = end - place;
+        return Checked {
+            place,
+            len,
+            fault: long_fault(len),
+        };
+    }
+    let len = word_end(text, place) - place;
+    Checked {
+        place,
+        len,
+        fault: word_fault(part(text, place, len)),
+    }
 }

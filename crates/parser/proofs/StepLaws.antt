@@ -9,10 +9,11 @@ use lib.Ieee.{Float}
 use lib.ListN.{getD, length}
 use Rattle.laws.specs.Bytes.{Bytes, part}
 use Rattle.lexer.proofs.WordLaws.{end-most}
-use Rattle.lexer.specs.Word.{wordAt, wordFault}
+use Rattle.lexer.specs.Word.{checkedAt, wordAt, wordFault}
+use Rattle.lexer.specs.declared.Checked.{Checked}
 use Rattle.lexer.specs.declared.Word.{Word}
 use Rattle.context.specs.Seen.{seenIn}
-use Rattle.parser.specs.Steps.{endOf, nextStep, openedStep, standing, stepOf, wordStep}
+use Rattle.parser.specs.Steps.{Scanned, endOf, nextStep, openedStep, standing, stepOf, wordOf, wordStep}
 use Rattle.scene.specs.declared.Settings.{Settings}
 use Rattle.statement.specs.States.{countedIn, movedTo, openingOf}
 use Rattle.statement.specs.declared.Opening.{Opening}
@@ -50,8 +51,15 @@ module _ (text : Bytes) (table : List ℕ) (reals : List Float) (x : List ℕ) (
       q₄ ∙ (λ i. stepOf (count i .phase) (p i) room (count i) v) ∙ (λ i. stepOf (s .phase) whole room (countedIn behind (seen i .looked)) (seen i))
       ∙ sym (ap (λ (z : Bool). cond z (stepOf (s .phase) whole room (countedIn behind (seenIn text table reals x behind (w .place) whole .looked)) (seenIn text table reals x behind (w .place) whole)) (to.Refused (wordFault whole) (w .place))) (eq-eqb (wordFault whole) 0 (sym fault-is ∙ h)))
 
-pub within : (text : Bytes) (at : ℕ) (w : Word) → w ≡ wordAt text at → w .place + w .len ≤ length text
-within text at w q = subst (λ (z : Word). z .place + z .len ≤ length text) (sym q) (end-most text at)
+-- what stands next in the text, as it is checked
+pub scanned : (text : Bytes) (at : ℕ) (c : Checked) → c ≡ checkedAt text at → Scanned text c
+scanned text at c q = record {
+  within = subst (λ (z : Checked). z .place + z .len ≤ length text) (sym q) (end-most text at);
+  fault = ap (λ (z : Checked). z .fault) q ∙ (λ i. wordFault (part text (sym q i .place) (sym q i .len)));
+}
+
+pub word-of : (text : Bytes) (at : ℕ) (c : Checked) → c ≡ checkedAt text at → wordOf c ≡ wordAt text at
+word-of text at c q = ap wordOf q
 
 -- the word w stands next
 module _ (text : Bytes) (table : List ℕ) (reals : List Float) (x : List ℕ) (room : Settings) (s : State) (w : Word) (q : w ≡ wordAt text (s .at)) where

@@ -1,7 +1,8 @@
 -- The step of what stands next in a text, over the code's own values.
 use mathlib.Core.Bool.{cond}
 use mathlib.Core.List.{List}
-use Prim.Native.Nat.{ℕ, _+_}
+use mathlib.Core.Path.{_≡_}
+use Prim.Native.Nat.{ℕ, _+_, _≤_}
 use lib.Dec.{eqb}
 use lib.Ieee.{Float}
 use lib.ListN.{getD, length}
@@ -10,6 +11,7 @@ use Rattle.laws.specs.Bytes.{Bytes, part}
 use Rattle.laws.specs.Runs.{past}
 use Rattle.lexer.specs.Class.{isInLine}
 use Rattle.lexer.specs.Word.{wordAt, wordFault}
+use Rattle.lexer.specs.declared.Checked.{Checked}
 use Rattle.lexer.specs.declared.Word.{Word}
 use Rattle.context.specs.Seen.{seenIn}
 use Rattle.scene.specs.declared.Settings.{Settings}
@@ -41,6 +43,14 @@ stepOf is.RealCount w room s v = realCountStep w (room .reals) s v
 stepOf is.Real w room s v = realStep w (room .reals) s v
 stepOf is.AliasName w room s v = nameStep is.Target w s v
 stepOf is.Target w room s v = targetStep s v
+
+-- a word as it is checked: it stands in the text, and its fault is told
+pub record Scanned (text : Bytes) (c : Checked) : Type 0 where
+  pub within : c .place + c .len ≤ length text
+  pub fault : c .fault ≡ wordFault (part text (c .place) (c .len))
+
+abbrev pub wordOf : Checked → Word
+wordOf c = record { place = c .place; len = c .len }
 
 -- the step of the word w, taken from the place behind it with what is seen of the tables, the entries looked at counted; a bad word's
 -- fault is the reason

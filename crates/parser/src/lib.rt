@@ -1,9 +1,7 @@
 // What stands next in a scene text, and what it does to the open statement: steps on values, which only look at the tables.
 ghost use mathlib.Core.Path.{_≡_};
-ghost use Prim.Native.Nat.{_+_, _≤_};
-ghost use lib.ListN.{length};
-ghost use Rattle.parser.specs.Steps.{endOf, nextStep, stepOf, wordStep};
-use lexer::Word;
+ghost use Rattle.parser.specs.Steps.{Scanned, endOf, nextStep, stepOf, wordOf, wordStep};
+use lexer::Checked;
 use scene::Settings;
 use statement::Opening;
 use statement::Phase;
@@ -52,16 +50,15 @@ fn word_step(
     index: &[u32],
     settings: Settings,
     s: State,
-    word: Word,
+    word: Checked,
 ) -> Step
-    requires { ⌜ word .place + word .len ≤ length (now text) ⌝ }
-    ensures { λ r. ⌜ r ≡ wordStep (now (text .entry)) (now (records .entry)) (now (reals .entry)) (now (index .entry)) settings s word ⌝ }
+    requires { ⌜ Scanned (now text) word ⌝ }
+    ensures { λ r. ⌜ r ≡ wordStep (now (text .entry)) (now (records .entry)) (now (reals .entry)) (now (index .entry)) settings s (wordOf word) ⌝ }
 {
     let place = word.place;
     let bytes = lexer::part(text, place, word.len);
-    let fault = lexer::word_fault(bytes);
-    if fault != 0 {
-        return Step::Refused(fault as u32, place);
+    if word.fault != 0 {
+        return Step::Refused(word.fault as u32, place);
     }
     let t = statement::moved(s, place + word.len + 1);
     let seen = context::look(text, records, reals, index, t, place, bytes);
@@ -80,7 +77,7 @@ pub fn next_step(
 ) -> Step
     ensures { λ r. ⌜ r ≡ nextStep (now (text .entry)) (now (records .entry)) (now (reals .entry)) (now (index .entry)) settings s ⌝ }
 {
-    let word = lexer::next_word(text, s.at);
+    let word = lexer::checked_word(text, s.at);
     let phase = s.phase;
     if word.len == 0 {
         return at_end(phase, text.len());

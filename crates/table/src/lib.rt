@@ -124,7 +124,8 @@ pub fn number_refusal(records: &[u32], count: usize, number: usize) -> u32
     0
 }
 
-fn clear_numbers(numbers: &mut [u32])
+// Zeroes a table of numbers.
+pub fn clear_numbers(numbers: &mut [u32])
     ensures { λ _. ⌜ now (numbers .exit) ≡ replicate (length (now (numbers .entry))) 0 ⌝ }
 {
     let mut i = 0;

@@ -24,11 +24,11 @@ narrow-requires-4 c κs = search needs
 source-of-requires : tie.Need-source-of-requires
 source-of-requires c κs = search needs
 
-back-requires : tie.Need-back-requires
-back-requires c κs = search needs
+real-before-requires : tie.Need-real-before-requires
+real-before-requires c κs = search needs
 
-back-requires-2 : tie.Need-back-requires-2
-back-requires-2 c κs = search needs
+real-before-requires-2 : tie.Need-real-before-requires-2
+real-before-requires-2 c κs = search needs
 
 returns : tie.Need-returns
 returns c =
@@ -43,8 +43,8 @@ returns c =
       found = (c .before .before .before .narrow4 .ensures ∙ ap clipped (l .0)) i;
       looked = l .1 i;
       source = (c .before .before .source-of .ensures ∙ ap (draftIn (a .records .now)) (l .0)) i;
-      previous = c .before .back .ensures i;
-      first = c .back2 .ensures i;
+      previous = c .before .real-before .ensures i;
+      first = c .real-before2 .ensures i;
     }
 
 pub look-spec : {M : Type 1} → statement M
@@ -57,6 +57,6 @@ look-spec =
     narrow-requires-3
     narrow-requires-4
     source-of-requires
-    back-requires
-    back-requires-2
+    real-before-requires
+    real-before-requires-2
     returns)

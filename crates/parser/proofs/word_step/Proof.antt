@@ -1,20 +1,21 @@
 -- `parser::word_step` meets its contract.
-use borrow.Author.Needs.{needs}
+use mathlib.Core.Path.{sym, ap, _∙_}
+use Rattle.lexer.specs.Word.{wordFault}
 use Rattle.parser.proofs.StepLaws.{word-faulty, word-good}
+use borrow.Author.Needs.{needs}
 use Rattle.parser.proofs.word_step.Statement.{statement}
 use Rattle.parser.proofs.word_step.Tie as tie
 
 part-requires : tie.Need-part-requires
 part-requires c κs = search needs
 
-word-fault-requires : tie.Need-word-fault-requires
-word-fault-requires c κs = search needs
-
-cast-t15 : tie.Need-cast-t15
-cast-t15 c = search needs
+cast-t14 : tie.Need-cast-t14
+cast-t14 c = search needs
 
 returns : tie.Need-returns
-returns c = word-faulty _ _ _ _ _ _ _ _ _ (c .before .before .part .ensures) (c .before .word-fault .ensures) (c .if1 .taken)
+returns c =
+    let part = c .before .before .before .part .ensures in
+    word-faulty _ _ _ _ _ _ _ _ _ part (c .before .before .before .before .before .before .before .before .pre .fault ∙ ap wordFault (sym part)) (c .before .if1 .taken)
 
 add-moved : tie.Need-add-moved
 add-moved c = search needs
@@ -36,16 +37,15 @@ advance-requires c κs = search needs
 
 returns-2 : tie.Need-returns-2
 returns-2 c =
-    let at-if1 = c .before .before .before .before .before in
-    word-good _ _ _ _ _ _ _ _ _ (at-if1 .before .before .part .ensures) (at-if1 .before .word-fault .ensures) (at-if1 .if1 .left) _ _ _ _ (c .before .before .before .moved .ensures) (c .before .before .look .ensures) (c .before .counted .ensures) (c .advance .ensures)
+    let part = c .before .before .before .before .before .before .before .part .ensures in
+    word-good _ _ _ _ _ _ _ _ _ part (c .before .before .before .before .before .before .before .before .before .before .before .before .pre .fault ∙ ap wordFault (sym part)) (c .before .before .before .before .before .if1 .left) _ _ _ _ (c .before .before .before .moved .ensures) (c .before .before .look .ensures) (c .before .counted .ensures) (c .advance .ensures)
 
 pub word-step-spec : {M : Type 1} → statement M
 word-step-spec =
     tie.close
     (tie.spec
     part-requires
-    word-fault-requires
-    cast-t15
+    cast-t14
     returns
     add-moved
     add-moved-2

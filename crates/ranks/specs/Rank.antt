@@ -1,0 +1,29 @@
+-- "which definition of that name it is, counting from 1", counted along an order in which records of one name stand side by side.
+use mathlib.Core.Bool.{cond}
+use mathlib.Core.List.{List, [], _∷_}
+use Prim.Native.Nat.{ℕ, zero, suc}
+use lib.ListN.{set, getD, replicate, take}
+use Rattle.laws.specs.Bytes.{Bytes, same}
+use Rattle.scene.specs.Record.{nameIn}
+
+-- record x's rank behind record p, which is the kth of its name
+unfoldable pub rankBehind : Bytes → (records : List ℕ) → (p k x : ℕ) → ℕ
+rankBehind text records p k x = cond (same (nameIn text records p) (nameIn text records x)) (suc k) 1
+
+-- the entry of record x, from 1, and a table with another one there; none for 0 and for numbers past its end
+abbrev pub entryOf : List ℕ → (x : ℕ) → ℕ
+entryOf t zero = 0
+entryOf t (suc n) = getD t n 0
+
+abbrev pub withEntry : List ℕ → (x value : ℕ) → List ℕ
+withEntry t zero v = t
+withEntry t (suc n) v = set t n v
+
+-- the ranks of an order's records, put into a table one by one
+unfoldable pub ranksFrom : Bytes → (records : List ℕ) → (p k : ℕ) → (order table : List ℕ) → List ℕ
+ranksFrom text records p k [] t = t
+ranksFrom text records p k (x ∷ xs) t = let n = rankBehind text records p k x in ranksFrom text records x n xs (withEntry t x n)
+
+-- a table of so many entries: the ranks of the first 1,024 in the order, whatever it holds, and 0 where no record of it has an entry
+abbrev pub ranksOf : Bytes → (records order : List ℕ) → (size : ℕ) → List ℕ
+ranksOf text records order size = ranksFrom text records 0 0 (take 1024 order) (replicate size 0)

@@ -1,5 +1,5 @@
 -- Laws of runs: what one step of a scan does, and what a run's end shows.
-use mathlib.Core.Bool.{Bool, true, false, cond}
+use mathlib.Core.Bool.{Bool, true, false, _&&_, cond}
 use mathlib.Core.List.{List, [], _∷_, _++_}
 use mathlib.Core.Logic.{_⊎_, inl, inr}
 use mathlib.Core.Path.{_≡_, refl, ap, sym, _∙_}
@@ -65,6 +65,25 @@ module _ {A : Type 0} (test : A → Bool) where
       go true e h = rw (e, h)
       go false e h = refl
 
+  -- a run that is shorter than the list leaves one that fails, and any other leaves none
+  pub run-short : (xs : List A) → run test xs < length xs → all test xs ≡ false
+  unfolding run all
+  run-short [] h = absurd (omega arith)
+  run-short (x ∷ xs) h = go (test x) h (run-short xs)
+    where
+      go : (b : Bool) → cond b (suc (run test xs)) 0 < suc (length xs) → (run test xs < length xs → all test xs ≡ false) → (b && all test xs) ≡ false
+      go true h ih = ih (omega arith)
+      go false h ih = refl
+
+  pub run-whole : (xs : List A) → length xs ≤ run test xs → all test xs ≡ true
+  unfolding run all
+  run-whole [] h = refl
+  run-whole (x ∷ xs) h = go (test x) h (run-whole xs)
+    where
+      go : (b : Bool) → suc (length xs) ≤ cond b (suc (run test xs)) 0 → (length xs ≤ run test xs → all test xs ≡ true) → (b && all test xs) ≡ true
+      go true h ih = ih (omega arith)
+      go false h ih = absurd (omega arith)
+
   -- with an element that fails put behind the list, one that fails stands behind the run
   pub record Behind (d : A) (xs : List A) : Type 0 where
     pub first : A
@@ -108,21 +127,6 @@ module _ {A : Type 0} (test : A → Bool) where
     pub past-run : i ≤ length xs → past test xs i ≡ i + run test (drop i xs)
     unfolding past
     past-run h = omega arith
-
-  -- one element after the other
-  module _ (xs : List A) (i : ℕ) where
-    pub all-end : length xs ≤ i → all test (drop i xs) ≡ true
-    unfolding all
-    all-end h = rw (drop-of-length-le xs h)
-
-    module _ (d : A) (h : i < length xs) where
-      pub all-stop : test (getD xs i d) ≡ false → all test (drop i xs) ≡ false
-      unfolding all
-      all-stop e = rw (drop-cons xs i d h, e)
-
-      pub all-step : test (getD xs i d) ≡ true → all test (drop (i + 1) xs) ≡ all test (drop i xs)
-      unfolding all
-      all-step e = rw (drop-cons xs i d h, e, add-one)
 
   -- where a scan stops within the list, the element fails
   pub past-fails : (xs : List A) (i : ℕ) (d : A) → past test xs i < length xs → test (getD xs (past test xs i) d) ≡ false

@@ -9,9 +9,9 @@ use borrow.Author.Tests.{leb-true, le-leb, lt-leb}
 use lib.Dec.{leb}
 use lib.ListN.{length, length-drop, take, drop, getD}
 use lib.Seq.{getD-drop, length-take-le}
-use Rattle.laws.proofs.RunLaws.{past-most, past-run, run-all, run-length}
+use Rattle.laws.proofs.RunLaws.{past-most, past-run, run-all, run-length, run-short, run-whole}
 use Rattle.laws.specs.Bytes.{Bytes, part}
-use Rattle.laws.specs.Runs.{past, run}
+use Rattle.laws.specs.Runs.{all, past, run}
 use Rattle.lexer.proofs.ClassLaws.{blank-not-good}
 use Rattle.lexer.proofs.WordLaws.{scanned}
 use Rattle.lexer.specs.Class.{isBlank, isGood, isOther}
@@ -98,3 +98,11 @@ too-long n h = rw (lt-leb n 64 h)
 
 pub short-enough : (n : ℕ) → n ≤ 64 → _≡_ {A = ℕ} 0 (cond (leb n 64) 0 3)
 short-enough n h = rw (le-leb n 64 h)
+
+-- ---- the bytes of a word
+
+pub bad-within : (w : Bytes) (end : ℕ) → end ≡ past isGood w 0 → end < length w → all isGood w ≡ false
+bad-within w end e h = run-short isGood w (omega (arith, e, past-run isGood w 0 (omega arith)))
+
+pub good-whole : (w : Bytes) (end : ℕ) → end ≡ past isGood w 0 → length w ≤ end → all isGood w ≡ true
+good-whole w end e h = run-whole isGood w (omega (arith, e, past-run isGood w 0 (omega arith)))

@@ -4,7 +4,7 @@ ghost use mathlib.Core.Path.{_≡_};
 ghost use Prim.Native.Nat.{min};
 ghost use lib.Dec.{leb};
 ghost use Rattle.laws.specs.Bytes.{part, same};
-ghost use Rattle.laws.specs.Runs.{all, past};
+ghost use Rattle.laws.specs.Runs.{past};
 ghost use Rattle.lexer.specs.Class.{classOf, isBlank, isGood, isInLine, isOther, isRun};
 ghost use Rattle.lexer.specs.Word.{checkedAt, endsWord, wordAt, wordBytes, wordEnd, wordFault};
 
@@ -403,25 +403,25 @@ pub fn same(a: &[u8], b: &[u8]) -> bool
     true
 }
 
-// Whether every byte of a word is good in one.
-fn all_good(word: &[u8]) -> bool
-    ensures { λ r. ⌜ r ≡ all isGood (now (word .entry)) ⌝ }
+// The first place from `at` on whose byte is not good in a word, or the text's length.
+fn good_end(text: &[u8], at: usize) -> usize
+    ensures { λ r. ⌜ r ≡ past isGood (now (text .entry)) at ⌝ }
 {
-    let mut i = 0;
-    while i < word.len() {
-        if !is_good(word[i]) {
-            return false;
+    let mut i = at;
+    while i < text.len() {
+        if !is_good(text[i]) {
+            return i;
         }
         i += 1;
     }
-    true
+    text.len()
 }
 
 // The reason for refusing a word by its bytes alone: 2 for a bad byte, 3 for over 64 bytes, else 0.
 pub fn word_fault(word: &[u8]) -> u8
     ensures { λ r. ⌜ r ≡ wordFault (now (word .entry)) ⌝ }
 {
-    if !all_good(word) {
+    if good_end(word, 0) < word.len() {
         return 2;
     }
     if 64 < word.len() {
@@ -435,20 +435,6 @@ pub struct Checked {
     pub place: usize,
     pub len: usize,
     pub fault: u8,
-}
-
-// The first place from `at` on whose byte is not good in a word, or the text's length.
-fn good_end(text: &[u8], at: usize) -> usize
-    ensures { λ r. ⌜ r ≡ past isGood (now (text .entry)) at ⌝ }
-{
-    let mut i = at;
-    while i < text.len() {
-        if !is_good(text[i]) {
-            return i;
-        }
-        i += 1;
-    }
-    text.len()
 }
 
 // Whether no word goes on at a place: a blank or the text's end is there.

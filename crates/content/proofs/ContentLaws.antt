@@ -12,7 +12,7 @@ use Rattle.bits.proofs.BitsLaws.{reals-same}
 use Rattle.bits.specs.Bits.{sameReals}
 use Rattle.keys.proofs.OrderLaws.{eqb-sym, same-sym, key-same, key-sym}
 use Rattle.keys.proofs.ScanLaws.{key-bare}
-use Rattle.keys.specs.Key.{keyOf, sameKey}
+use Rattle.keys.specs.Key.{Key, keyOf, sameKey}
 use Rattle.keys.specs.Rows.{sceneRows}
 use Rattle.laws.proofs.BytesLaws.{same-refl}
 use Rattle.laws.proofs.ListLaws.{cut-part}
@@ -20,7 +20,7 @@ use Rattle.laws.specs.Bytes.{Bytes, same}
 use Rattle.lexer.specs.Word.{wordBytes, wordEnd}
 use Rattle.scene.specs.Record.{recordIn}
 use Rattle.scene.specs.Told.{tells, wordsFrom, realsOf, stringsOf}
-use Rattle.content.specs.Content.{Content, contentIn, sameContent, sameWords}
+use Rattle.content.specs.Content.{Content, contentIn, sameButLinks, sameContent, sameWords}
 
 -- ---- equal content
 
@@ -97,8 +97,8 @@ module _ (a : Bytes) (ra : List ℕ) (m : ℕ) (b : Bytes) (rb : List ℕ) (n x 
   strings-words i j s h e f g = g ∙ (λ k. sameWords (wordsFrom a (e k) (p k)) (wordsFrom b (f k) ((h ∙ q) k)))
 
 -- the keys that two links lead to, by the numbers that they hold
-pub links-lead : (a : Bytes) (ra : List ℕ) (b : Bytes) (rb : List ℕ) (i j m n : ℕ) (r : Bool) → i ≡ m → j ≡ n → r ≡ sameKey (keyOf (sceneRows a ra []) i) (keyOf (sceneRows b rb []) j) → r ≡ sameKey (keyOf (sceneRows a ra []) m) (keyOf (sceneRows b rb []) n)
-links-lead a ra b rb i j m n r p q e = e ∙ (λ k. sameKey (keyOf (sceneRows a ra []) (p k)) (keyOf (sceneRows b rb []) (q k)))
+pub links-lead : (key other : ℕ → Key) (i j m n : ℕ) (r : Bool) → i ≡ m → j ≡ n → r ≡ sameKey (key i) (other j) → r ≡ sameKey (key m) (other n)
+links-lead key other i j m n r p q e = e ∙ (λ k. sameKey (key (p k)) (other (q k)))
 
 -- a table with no reals has none of a primitive's
 no-reals : (k i : ℕ) → _≡_ {A = List Float} (take k (drop i [])) []
@@ -138,14 +138,19 @@ module _ (a : Bytes) (ra : List ℕ) (m : ℕ) (b : Bytes) (rb : List ℕ) (n : 
     pub reals-agree : q ≡ true → (s : Bool) → s ≡ bare → s ≡ sameContent (contentIn a ra xa m) (contentIn b rb xb n)
     reals-agree h s d = d ∙ sym (reals-apart xa xb ∙ rw (sym e ∙ h))
 
-  pub kinds-differ : (x y : ℕ) → x ≡ recordIn ra m .type → y ≡ recordIn rb n .type → (x ≡ y → ⊥) → false ≡ bare
-  kinds-differ x y p q h = sym (tests ∙ rw (ne-eqb (recordIn ra m .type) (recordIn rb n .type) (λ e. h (p ∙ e ∙ sym q))))
+  pub kinds-differ : (x y : ℕ) → x ≡ recordIn ra m .type → y ≡ recordIn rb n .type → (x ≡ y → ⊥) → false ≡ sameButLinks a (recordIn ra m) b (recordIn rb n)
+  kinds-differ x y p q h = rw (ne-eqb (recordIn ra m .type) (recordIn rb n .type) (λ e. h (p ∙ e ∙ sym q)))
 
-  pub strings-differ : (s : Bool) → s ≡ sameWords (stringsOf a (recordIn ra m)) (stringsOf b (recordIn rb n)) → s ≡ false → false ≡ bare
-  strings-differ s e h = sym (tests ∙ rw (sym e ∙ h, and-false))
+  pub kinds-agree : (x y : ℕ) (s : Bool) → x ≡ recordIn ra m .type → y ≡ recordIn rb n .type → x ≡ y → s ≡ sameWords (stringsOf a (recordIn ra m)) (stringsOf b (recordIn rb n)) → s ≡ sameButLinks a (recordIn ra m) b (recordIn rb n)
+  kinds-agree x y s p q h e = rw (eq-eqb (recordIn ra m .type) (recordIn rb n .type) (sym p ∙ h ∙ q)) e
 
-  pub targets-differ : (p : Bool) → p ≡ linked (recordIn ra m .target) (recordIn rb n .target) → p ≡ false → false ≡ bare
-  targets-differ p e h = sym (tests ∙ rw (sym e ∙ h, and-false))
+  module _ (g : Bool) (e : g ≡ sameButLinks a (recordIn ra m) b (recordIn rb n)) where
+    pub rest-differs : g ≡ false → false ≡ bare
+    rest-differs h = sym (tests ∙ rw (sym e ∙ h))
 
-  pub all-agree : (x y : ℕ) (g p q : Bool) → x ≡ recordIn ra m .type → y ≡ recordIn rb n .type → x ≡ y → g ≡ sameWords (stringsOf a (recordIn ra m)) (stringsOf b (recordIn rb n)) → g ≡ true → p ≡ linked (recordIn ra m .target) (recordIn rb n .target) → p ≡ true → q ≡ linked (recordIn ra m .modifier) (recordIn rb n .modifier) → q ≡ bare
-  all-agree x y g p q i j k l o z w f = f ∙ sym (tests ∙ rw (eq-eqb (recordIn ra m .type) (recordIn rb n .type) (sym i ∙ k ∙ j), sym l ∙ o, sym z ∙ w))
+    module _ (h : g ≡ true) (p : Bool) (f : p ≡ linked (recordIn ra m .target) (recordIn rb n .target)) where
+      pub targets-differ : p ≡ false → false ≡ bare
+      targets-differ k = sym (tests ∙ rw (sym e ∙ h, sym f ∙ k))
+
+      pub all-agree : p ≡ true → (q : Bool) → q ≡ linked (recordIn ra m .modifier) (recordIn rb n .modifier) → q ≡ bare
+      all-agree k q z = z ∙ sym (tests ∙ rw (sym e ∙ h, sym f ∙ k))

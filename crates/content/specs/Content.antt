@@ -8,8 +8,8 @@ use Rattle.bits.specs.Bits.{sameReals}
 use Rattle.keys.specs.Key.{Key, keyOf, sameKey}
 use Rattle.keys.specs.Rows.{sceneRows}
 use Rattle.laws.specs.Bytes.{Bytes, same}
-use Rattle.scene.specs.Record.{recordIn}
-use Rattle.scene.specs.Told.{Told, tells}
+use Rattle.scene.specs.Record.{Record, recordIn}
+use Rattle.scene.specs.Told.{Told, tells, stringsOf}
 
 -- what a primitive is: its type, strings and reals, and the keys of its alias target and its modifier
 pub record Content : Type 0 where
@@ -19,8 +19,12 @@ pub record Content : Type 0 where
   pub alias : Key
   pub modifier : Key
 
+-- by the keys that the numbers of its links have
+abbrev pub contentWith : (ℕ → Key) → Told → Content
+contentWith key t = record { type = t .type; strings = t .strings; reals = t .reals; alias = key (t .target); modifier = key (t .modifier) }
+
 abbrev pub contentOf : (all : List Told) → Told → Content
-contentOf all t = record { type = t .type; strings = t .strings; reals = t .reals; alias = keyOf all (t .target); modifier = keyOf all (t .modifier) }
+contentOf all = contentWith (keyOf all)
 
 -- of number n of a scene
 abbrev pub contentIn : Bytes → (records : List ℕ) → (reals : List Float) → (n : ℕ) → Content
@@ -31,6 +35,10 @@ sameWords [] [] = true
 sameWords [] (y ∷ ys) = false
 sameWords (x ∷ xs) [] = false
 sameWords (x ∷ xs) (y ∷ ys) = same x y && sameWords xs ys
+
+-- the same type and the same strings
+abbrev pub sameButLinks : Bytes → Record → Bytes → Record → Bool
+sameButLinks a r b s = eqb (r .type) (s .type) && sameWords (stringsOf a r) (stringsOf b s)
 
 -- "same means equal type, strings, real bits, alias key and modifier key"
 unfoldable pub sameContent : Content → Content → Bool

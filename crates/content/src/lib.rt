@@ -7,7 +7,7 @@ ghost use Rattle.keys.specs.Key.{keyOf, sameKey};
 ghost use Rattle.keys.specs.Rows.{sceneRows};
 ghost use Rattle.scene.specs.Record.{fieldIn, recordIn};
 ghost use Rattle.scene.specs.Told.{wordsFrom};
-ghost use Rattle.content.specs.Content.{contentIn, sameContent, sameWords};
+ghost use Rattle.content.specs.Content.{contentIn, sameButLinks, sameContent, sameWords};
 ghost use Rattle.scene.specs.Told.{realsOf, stringsOf};
 use table::KIND;
 use table::MODIFIER;
@@ -106,6 +106,23 @@ fn same_link(
     keys::same_key(a, a_records, i, b, b_records, j)
 }
 
+// Whether they are the same but for their reals and their links.
+pub fn same_but_links(
+    a: &[u8],
+    a_records: &[u32],
+    m: usize,
+    b: &[u8],
+    b_records: &[u32],
+    n: usize,
+) -> bool
+    ensures { λ r. ⌜ r ≡ sameButLinks (now (a .entry)) (recordIn (now («a_records» .entry)) m) (now (b .entry)) (recordIn (now («b_records» .entry)) n) ⌝ }
+{
+    if number(a_records, m, KIND) != number(b_records, n, KIND) {
+        return false;
+    }
+    same_strings(a, a_records, m, b, b_records, n)
+}
+
 // Whether they are the same but for their reals.
 pub fn same_but_reals(
     a: &[u8],
@@ -117,10 +134,7 @@ pub fn same_but_reals(
 ) -> bool
     ensures { λ r. ⌜ r ≡ sameContent (contentIn (now (a .entry)) (now («a_records» .entry)) [] m) (contentIn (now (b .entry)) (now («b_records» .entry)) [] n) ⌝ }
 {
-    if number(a_records, m, KIND) != number(b_records, n, KIND) {
-        return false;
-    }
-    if !same_strings(a, a_records, m, b, b_records, n) {
+    if !same_but_links(a, a_records, m, b, b_records, n) {
         return false;
     }
     if !same_link(a, a_records, m, b, b_records, n, TARGET) {

@@ -75,7 +75,7 @@ ahead-over k x [] a b = tt
 ahead-over k x (y ∷ ks) a b = before-transitive k x y a b
 
 -- a key of an increasing list stands in it once
-ahead-absent : (k : Key) (ks : List Key) → Ahead k ks → Increasing ks → standsIn k ks ≡ false
+pub ahead-absent : (k : Key) (ks : List Key) → Ahead k ks → Increasing ks → standsIn k ks ≡ false
 unfolding standsIn
 ahead-absent k [] a h = refl
 ahead-absent k (x ∷ ks) a h = go (before k x) (sameKey k x) (before x k) (before-one k x) a (ahead-absent k ks (ahead-over k x ks a (h .0)) (h .1))

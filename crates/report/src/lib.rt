@@ -1,8 +1,9 @@
 // What the comparison of two saves comes to, on standard output: a line for each key that only one save has, or that was
 // changed; or one line for a save that is refused or cannot be read. Each function answers whether all of it was written.
-use comparison::Next;
 use comparison::Place;
 use comparison::State;
+use ordered::Cursors;
+use ordered::Next;
 use pair::Side;
 use table::MOST_RECORDS;
 use table::WIDTH;
@@ -33,31 +34,35 @@ fn print_line(text: &[u8], records: &[u32], number: usize, nth: usize, state: St
     output::print(lexer::part(&line, 0, n))
 }
 
-// Prints the lines one by one. Each search goes on from the key of the line before.
-pub fn print_lines<'a>(
-    left: &'a [u8],
+// Prints the lines one by one, along an order of each scene's names.
+pub fn print_lines(
+    left: &[u8],
     left_records: &[u32],
     left_reals: &[f64],
-    right: &'a [u8],
+    left_order: &[u32],
+    right: &[u8],
     right_records: &[u32],
     right_reals: &[f64],
+    right_order: &[u32],
 ) -> bool {
-    let mut from = Place::Left(0);
+    let mut from = Cursors { left: 0, right: 0 };
     let mut lines = 0;
     while lines < KEYS {
-        match comparison::next_line(
+        match ordered::next_line(
             left,
             left_records,
             left_reals,
+            left_order,
             right,
             right_records,
             right_reals,
+            right_order,
             from,
         ) {
             Next::End => {
                 return true;
             }
-            Next::Line(place, nth, state) => {
+            Next::Line(at, place, nth, state) => {
                 let written = match place {
                     Place::Left(n) => print_line(left, left_records, n, nth, state),
                     Place::Right(n) => print_line(right, right_records, n, nth, state),
@@ -65,7 +70,7 @@ pub fn print_lines<'a>(
                 if !written {
                     return false;
                 }
-                from = place;
+                from = at;
             }
         }
         lines += 1;

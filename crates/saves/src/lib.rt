@@ -8,10 +8,53 @@ use scene::Mode;
 use table::MOST_BYTES;
 use table::MOST_NUMBERS;
 use table::MOST_REALS;
+use table::MOST_RECORDS;
+use table::WIDTH;
 use table::first_records;
 
+// As many entries as the order of a scene has at most: two for each record.
+const MOST_ENTRIES: usize = 2 * MOST_RECORDS;
+
+// Puts a scene's names in order, in a table's first entries: two for each record.
+fn order_names(text: &[u8], records: &[u32], table: &mut [u32], scratch: &mut [u32]) {
+    let end = lexer::least(2 * (records.len() / WIDTH), table.len());
+    ranks::order_names(text, records, &mut table[..end], scratch);
+}
+
+// Those entries.
+fn order_of<'a>(records: &[u32], table: &'a [u32]) -> &'a [u32] {
+    let end = lexer::least(2 * (records.len() / WIDTH), table.len());
+    &table[0..end]
+}
+
+// Puts the names of both scenes in order, and prints the lines.
+fn print_lines(
+    left: &[u8],
+    left_records: &[u32],
+    left_reals: &[f64],
+    right: &[u8],
+    right_records: &[u32],
+    right_reals: &[f64],
+) -> bool {
+    let mut left_order = [0u32; MOST_ENTRIES];
+    let mut right_order = [0u32; MOST_ENTRIES];
+    let mut scratch = [0u32; MOST_RECORDS];
+    order_names(left, left_records, &mut left_order, &mut scratch);
+    order_names(right, right_records, &mut right_order, &mut scratch);
+    report::print_lines(
+        left,
+        left_records,
+        left_reals,
+        order_of(left_records, &left_order),
+        right,
+        right_records,
+        right_reals,
+        order_of(right_records, &right_order),
+    )
+}
+
 // Compares two texts, and prints the lines or the refusal.
-fn compare<'a>(mode: Mode, left: &'a [u8], right: &'a [u8]) -> bool {
+fn compare(mode: Mode, left: &[u8], right: &[u8]) -> bool {
     let mut left_records = [0u32; MOST_NUMBERS];
     let mut left_reals = [0.0f64; MOST_REALS];
     let mut right_records = [0u32; MOST_NUMBERS];
@@ -25,7 +68,7 @@ fn compare<'a>(mode: Mode, left: &'a [u8], right: &'a [u8]) -> bool {
         &mut right_records,
         &mut right_reals,
     ) {
-        Both::Read(left_count, _, right_count, _) => report::print_lines(
+        Both::Read(left_count, _, right_count, _) => print_lines(
             left,
             first_records(&left_records, left_count),
             &left_reals,

@@ -5,10 +5,10 @@ use Rattle.report.proofs.print_lines.Statement.{statement}
 use Rattle.report.proofs.print_lines.Tie as tie
 
 abbrev Inv-loop : tie.InvT-loop
-Inv-loop left left-records left-reals right right-records right-reals from₀ lines₀ from lines = Unit {0}
+Inv-loop left left-records left-reals left-order right right-records right-reals right-order from₀ lines₀ from lines = Unit {0}
 
 abbrev μ-loop : tie.MeasureT-loop
-μ-loop left left-records left-reals right right-records right-reals from₀ lines₀ from lines = 2048 - lines
+μ-loop left left-records left-reals left-order right right-records right-reals right-order from₀ lines₀ from lines = 2048 - lines
 
 loop-holds : tie.Need-loop-holds Inv-loop μ-loop
 loop-holds c = search needs
@@ -22,17 +22,17 @@ enum-told c = search needs
 returns : tie.Need-returns Inv-loop μ-loop
 returns c = search needs
 
+enum-known-at : tie.Need-enum-known-at Inv-loop μ-loop
+enum-known-at c = search needs
+
 enum-known-place : tie.Need-enum-known-place Inv-loop μ-loop
 enum-known-place c = search needs
-
-enum-known-place-2 : tie.Need-enum-known-place-2 Inv-loop μ-loop
-enum-known-place-2 c = search needs
 
 print-line-requires : tie.Need-print-line-requires Inv-loop μ-loop
 print-line-requires c κs = search needs
 
-enum-known-place-3 : tie.Need-enum-known-place-3 Inv-loop μ-loop
-enum-known-place-3 c = search needs
+enum-known-place-2 : tie.Need-enum-known-place-2 Inv-loop μ-loop
+enum-known-place-2 c = search needs
 
 print-line-requires-2 : tie.Need-print-line-requires-2 Inv-loop μ-loop
 print-line-requires-2 c κs = search needs
@@ -62,10 +62,10 @@ print-lines-spec =
     next-line-requires
     enum-told
     returns
+    enum-known-at
     enum-known-place
-    enum-known-place-2
     print-line-requires
-    enum-known-place-3
+    enum-known-place-2
     print-line-requires-2
     returns-2
     add-lines

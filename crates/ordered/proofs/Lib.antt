@@ -1,0 +1,4 @@
+pub mod TurnLaws
+pub mod SceneLaws
+pub mod UnionLaws
+pub mod ComparedLaws

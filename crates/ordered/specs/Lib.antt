@@ -1,0 +1,5 @@
+-- To be believed.
+pub mod Lines
+pub mod Compared
+-- Inner models of the proofs.
+pub mod Turns

@@ -71,7 +71,7 @@ pub fn integer_count(word: &[u8], s: State, v: Seen) -> Step
 }
 
 // Whether n more reals fit a room of which some are used.
-fn fits(used: usize, n: u32, room: usize) -> bool
+pub fn fits(used: usize, n: u32, room: usize) -> bool
     ensures { λ r. ⌜ r ≡ leb (used + n) room ⌝ }
 {
     if used <= room {
@@ -113,7 +113,7 @@ fn stored(s: State, used: usize, left: u32) -> State
     t
 }
 
-fn less(a: u32, b: u32) -> u32
+pub fn less(a: u32, b: u32) -> u32
     ensures { λ r. ⌜ r ≡ a - b ⌝ }
 {
     if a < b { 0 } else { a - b }

@@ -51,7 +51,7 @@ fn look_up(
 }
 
 // Type, strings and reals of a record by its number.
-fn source_of(records: &[u32], number: usize) -> Draft
+pub fn source_of(records: &[u32], number: usize) -> Draft
     ensures { λ r. ⌜ r ≡ draftIn (now (records .entry)) number ⌝ }
 {
     let mut d = linked(0);
@@ -67,7 +67,7 @@ fn source_of(records: &[u32], number: usize) -> Draft
 }
 
 // The real that stands `j` before the next one.
-fn back(reals: &[f64], used: usize, j: usize) -> f64
+pub fn back(reals: &[f64], used: usize, j: usize) -> f64
     ensures { λ r. ⌜ r ≡ back (now (reals .entry)) used j ⌝ }
 {
     if j <= used {

@@ -9,7 +9,7 @@ use lib.Dec.{leb}
 use lib.Ieee.{Float}
 use lib.ListN.{length, length-replicate, replicate}
 use Rattle.driver.specs.Ending.{Ends, ending, indexAfter}
-use Rattle.driver.specs.Invariant.{Accepts, Inv, result}
+use Rattle.progress.specs.Invariant.{Accepts, Inv, result}
 use Rattle.driver.specs.declared.End.the-variants.{Accepted, Refused}
 use Rattle.index.proofs.ReportLaws.{tally-is}
 use Rattle.index.proofs.TableLaws.{lent-none}

@@ -1,7 +1,1 @@
-pub mod StepLaws
-pub mod PhaseLaws
-pub mod MoveLaws
-pub mod WordLaws
-pub mod ReadyLaws
-pub mod NextLaws
 pub mod EndLaws

@@ -1,5 +1,2 @@
 -- Inner models of the proofs.
 pub mod Ending
-pub mod Image
-pub mod Invariant
-pub mod Goes

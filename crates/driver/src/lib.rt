@@ -1,4 +1,5 @@
-// The driver of the scene reader: step by step through a text, each step done to the lent tables.
+// The driver of the scene reader: plain statements whole, and through all else of a text step by step, each step done to the lent
+// tables.
 ghost use Rattle.driver.specs.Ending.{Ends};
 use scene::Mode;
 use statement::Step;
@@ -27,6 +28,7 @@ pub fn run(
     let settings = table::settings_for(mode, records.len(), reals.len());
     let mut s = statement::between(0, 0, 0, 0);
     loop {
+        s = plain::statements(text, records, reals, index, settings, s);
         match parser::next_step(text, records, reals, index, settings, s) {
             Step::Going(t) => {
                 s = t;

@@ -21,7 +21,7 @@ pub fn put_kind(out: &mut [u8], at: usize, kind: u32) -> usize
     ensures { λ _. ⌜ now (out .exit) ≡ put (now (out .entry)) at (kindField kind) ⌝ }
     ensures { λ r. ⌜ r ≡ behind (now (out .entry)) at (kindField kind) ⌝ }
 {
-    let name = kinds::type_name(kind);
+    let name = type_names::type_name(kind);
     let bytes = name.0;
     put_text(out, at, b" type=", lexer::part(&bytes, 0, name.1))
 }

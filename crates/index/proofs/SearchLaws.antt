@@ -7,15 +7,19 @@ use native.Mathlib.Nat.{add-mul-mod-self-left}
 use native.Mathlib.Numerals.{add-one}
 use native.Mathlib.Omega.{arith}
 use borrow.Author.Tests.{eq-eqb, ne-eqb, le-leb, lt-leb}
-use lib.ListN.{length, drop, getD, set, replicate, drop-of-length-le}
+use lib.Dec.{lit<}
+use lib.ListN.{length, take, drop, getD, set, replicate, drop-of-length-le}
 use lib.Seq.{drop-cons}
 use Rattle.laws.proofs.BoolLaws.{cond-elim}
+use Rattle.laws.proofs.ListLaws.{part-length}
 use Rattle.laws.proofs.TableLaws.{padded}
-use Rattle.laws.specs.Bytes.{Bytes, same}
+use Rattle.laws.specs.Bytes.{Bytes, part, same}
+use Rattle.lexer.proofs.SameLaws.{same-length}
 use Rattle.index.specs.Index.{hash, hashFrom, lookedAt, passed, place, searched, seek, stops}
 use Rattle.index.specs.Searches.{Hashed, foundPlain, sought}
 use Rattle.index.specs.declared.Found.{Found}
-use Rattle.scene.specs.Record.{nameIn}
+use Rattle.scene.specs.Record.{nameIn, width}
+use Rattle.table.proofs.QuestionLaws.{field-at, length-field, name-field}
 
 pub hash-step : (h : ℕ) (w : Bytes) (i : ℕ) → i < length w → hashFrom h (drop i w) ≡ hashFrom ((31 * h + getD w i 0) % 2048) (drop (i + 1) w)
 unfolding hashFrom
@@ -142,6 +146,24 @@ module _ (x : List ℕ) (name : ℕ → Bytes) (w : Bytes) where
 
 pub stops-else : (name : ℕ → Bytes) (w : Bytes) (v : ℕ) (b : Bool) (n : Bytes) → (v ≡ 0 → ⊥) → b ≡ same w n → n ≡ name v → b ≡ stops name w v
 stops-else name w v b n h e q = e ∙ ap (same w) q ∙ sym (stops-same name w v h)
+
+-- ---- a name read in place
+
+pub name-at : (text : Bytes) (table : List ℕ) (n : ℕ) → (n ≡ 0 → ⊥) → part text (getD table ((n - 1) * width + 3) 0) (getD table ((n - 1) * width + 4) 0) ≡ nameIn text table n
+unfolding nameIn
+name-at text table n h = λ i. part text ((field-at table 3 (lit< tt) n h ∙ name-field table n) i) ((field-at table 4 (lit< tt) n h ∙ length-field table n) i)
+
+-- a part of a text, and a word; its start and length are copied first
+module _ (text w : Bytes) (place size start len : ℕ) (s : start ≡ place) (l : len ≡ size) where
+  pub copied-part : (b : Bool) (n : Bytes) → b ≡ same w n → n ≡ part text start len → b ≡ same w (part text place size)
+  copied-part b n e q = e ∙ ap (same w) (q ∙ (λ i. part text (s i) (l i)))
+
+  pub whole-part : (b : Bool) → b ≡ same w (take (start + len - start) (drop start text)) → b ≡ same w (part text place size)
+  whole-part b e = copied-part b (take (start + len - start) (drop start text)) e (let q : start + len - start ≡ len = omega arith in ap (λ (k : ℕ). part text start k) q)
+
+  -- of another length
+  pub other-part : start + len ≤ length text → (len ≡ length w → ⊥) → false ≡ same w (part text place size)
+  other-part f h = copied-part false (part text start len) (sym (same-length w (part text start len) (λ e. h (sym (e ∙ part-length text start len f))))) refl
 
 -- ---- the search that is lent an index, or none
 

@@ -3,9 +3,13 @@
 ghost use mathlib.Core.Path.{_≡_};
 ghost use Prim.Native.Nat.{_+_, _*_, _%_, _≤_, _<_};
 ghost use lib.ListN.{length, set};
+ghost use Rattle.laws.specs.Bytes.{part, same};
 ghost use Rattle.index.specs.Index.{hash, searched, size, stops};
 ghost use Rattle.index.specs.Searches.{Hashed, sought};
 ghost use Rattle.scene.specs.Record.{nameIn};
+use table::NAME;
+use table::NAME_LENGTH;
+use table::WIDTH;
 
 // How many entries of an index are used.
 pub const ENTRIES: usize = 2048;
@@ -67,6 +71,22 @@ fn hash(word: &[u8]) -> usize
     h
 }
 
+// Whether a word is what the text has of a part of it. Of a part that the text has whole, the length is compared first.
+fn is_part(text: &[u8], place: u32, size: u32, word: &[u8]) -> bool
+    ensures { λ r. ⌜ r ≡ same (now (word .entry)) (part (now (text .entry)) place size) ⌝ }
+{
+    let start = wide(place);
+    let len = wide(size);
+    let end = start + len;
+    if text.len() < end {
+        return lexer::same(word, lexer::part(text, start, len));
+    }
+    if len != word.len() {
+        return false;
+    }
+    lexer::same(word, &text[start..end])
+}
+
 // Whether an entry that holds a number ends the search for a name.
 fn stops(text: &[u8], records: &[u32], word: &[u8], number: usize) -> bool
     ensures { λ r. ⌜ r ≡ stops (nameIn (now (text .entry)) (now (records .entry))) (now (word .entry)) number ⌝ }
@@ -74,7 +94,12 @@ fn stops(text: &[u8], records: &[u32], word: &[u8], number: usize) -> bool
     if number == 0 {
         return true;
     }
-    lexer::same(word, table::name_of(text, records, number))
+    let row = number - 1;
+    if records.len() / WIDTH <= row {
+        return lexer::same(word, table::name_of(text, records, number));
+    }
+    let at = row * WIDTH;
+    is_part(text, records[at + NAME], records[at + NAME_LENGTH], word)
 }
 
 // The search from a name's own entry on, going round.

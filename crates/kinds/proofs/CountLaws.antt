@@ -1,47 +1,35 @@
--- The tables of counts give the rules of the types.
+-- The rules on counts, by their numbers and by the types'.
 use mathlib.Core.Bool.{true, _&&_, _||_}
-use mathlib.Core.List.{List, map}
-use mathlib.Core.Path.{_≡_, refl, sym, ap, _∙_}
-use Prim.Native.Nat.{ℕ, _+_, _-_, _%_, _≤_, _<_}
+use mathlib.Core.Path.{_≡_, refl, sym, ap}
+use Prim.Native.Nat.{ℕ, zero, suc, _-_, _%_, _≤_, _<_}
+use native.Mathlib.Omega.{arith}
 use borrow.Author.Tests.{eq-eqb, le-ltb, lt-ltb, ne-eqb}
 use lib.Dec.{eqb, leb}
-use lib.ListN.{getD}
-use Rattle.laws.proofs.TableLaws.{entry-means}
-use Rattle.scene.specs.Types.{Rule, exactly, orMore, either, corners, any, allows, Kind, noType, types, stringsAllowed, realsAllowed}
-use Rattle.kinds.proofs.RowLaws.{row-kind, no-row}
-use Rattle.kinds.specs.Rules.{rowNumber, ruleOf}
+use lib.ListN.{List·getD-eq-default}
+use Rattle.scene.specs.Types.{allows, kindOf, noType, types}
+use Rattle.kinds.specs.Rules.{ruleOf}
 
--- a rule's number
-abbrev code : Rule → ℕ
-code (exactly n) = n
-code (orMore n) = 100 + n
-code (either n m) = 200
-code corners = 201
-code any = 202
+-- the types of one number have the same rules
+module _ {t k : ℕ} (e : t ≡ k) where
+  pub strings-is : kindOf k .strings ≡ kindOf t .strings
+  strings-is = sym (ap (λ (n : ℕ). kindOf n .strings) e)
 
--- the code's tables, as antt computes them
-abbrev strings : List ℕ
-strings = map (λ (t : Kind). code (t .strings)) types
+  pub reals-is : kindOf k .reals ≡ kindOf t .reals
+  reals-is = sym (ap (λ (n : ℕ). kindOf n .reals) e)
 
-abbrev reals : List ℕ
-reals = map (λ (t : Kind). code (t .reals)) types
+-- a number that is none of 1 to n, as a `match` tells it; and none of the types'
+abbrev NoneTo : ℕ → ℕ → Type 0
+NoneTo zero t = Unit {0}
+NoneTo (suc n) t = NoneTo n t × (t ≡ suc n → ⊥)
 
-module _ (t k n : ℕ) (r : k ≡ rowNumber t) where
-  pub strings-in : (d : ℕ) → k < 25 → allows (ruleOf (getD strings k d)) n ≡ stringsAllowed t n
-  unfolding ruleOf stringsAllowed
-  strings-in d h = ap (λ (q : Rule). allows q n) (entry-means ruleOf (λ (x : Kind). x .strings) strings types refl k d noType h ∙ ap (λ (x : Kind). x .strings) (row-kind t k r))
+past : (n t : ℕ) → NoneTo n t → 0 < t → n < t
+past zero t h l = l
+past (suc n) t h l = let m = past n t (h .0) l in let e = h .1 in omega arith
 
-  pub reals-in : (d : ℕ) → k < 25 → allows (ruleOf (getD reals k d)) n ≡ realsAllowed t n
-  unfolding ruleOf realsAllowed
-  reals-in d h = ap (λ (q : Rule). allows q n) (entry-means ruleOf (λ (x : Kind). x .reals) reals types refl k d noType h ∙ ap (λ (x : Kind). x .reals) (row-kind t k r))
-
-  pub any-strings : 25 ≤ k → true ≡ stringsAllowed t n
-  unfolding stringsAllowed
-  any-strings h = sym (ap (λ (x : Kind). allows (x .strings) n) (no-row t k r h))
-
-  pub any-reals : 25 ≤ k → true ≡ realsAllowed t n
-  unfolding realsAllowed
-  any-reals h = sym (ap (λ (x : Kind). allows (x .reals) n) (no-row t k r h))
+pub no-kind : (t : ℕ) → NoneTo 25 t → noType ≡ kindOf t
+unfolding kindOf
+no-kind zero h = refl
+no-kind (suc t) h = let m : 25 ≤ t = (let l = past 25 (suc t) h (omega arith) in omega arith) in sym (List·getD-eq-default types noType m)
 
 -- ---- a rule by its number
 

@@ -1,18 +1,23 @@
 -- The house rules of each type, as the code tests them, are those of the list.
-use mathlib.Core.Bool.{Bool, true, false, not, _&&_, _||_}
+use mathlib.Core.Bool.{Bool, true, false, not, Bool·beq, _&&_, _||_}
+use mathlib.Core.List.{List, [], _∷_}
 use mathlib.Core.Logic.{_⊎_, inl, inr}
 use mathlib.Core.Path.{_≡_, refl, sym, ap, _∙_}
 use Prim.Native.Nat.{ℕ, _≤_, _<_}
 use native.Mathlib.Omega.{arith}
-use borrow.Author.Tests.{eqb-true, eqb-false, ne-eqb}
-use lib.Dec.{eqb}
+use borrow.Author.Tests.{eqb-true, eqb-false, le-leb, lt-leb, ne-eqb}
+use lib.Dec.{T, eqb, leb, leb→le}
 use lib.Ieee.{Float, lt}
+use lib.Ieee.Fits.{and-l, and-r}
+use lib.ListN.{replicate}
 use Rattle.laws.proofs.BoolLaws.{or-false-left, or-false-right}
 use Rattle.laws.proofs.NatLaws.{le-or-lt}
+use Rattle.laws.proofs.TableLaws.{entry}
 use Rattle.laws.specs.Bytes.{same}
-use Rattle.scene.specs.HouseRules.{breachAt, houseRules, isAbove0, isAtLeast0, is0}
+use Rattle.laws.specs.Runs.{all}
+use Rattle.scene.specs.HouseRules.{House, breachAt, breaks, houseRules, isAbove0, isAtLeast0, is0}
 use Rattle.scene.specs.Types.{numberFrom, typeNumber}
-use Rattle.kinds.specs.Rules.{coneBreach, ringBreach}
+use Rattle.kinds.specs.Rules.{coneBreach, isRuled, ringBreach}
 
 -- the list ends with no rule
 or-none : (b : Bool) → b ≡ (b || false)
@@ -151,3 +156,38 @@ module _ (t k : ℕ) (x y z : Float) where
 pub other-alone : (t k : ℕ) (x y z : Float) → 10 ≤ t → breachAt houseRules t k x x x ≡ breachAt houseRules t k x y z
 unfolding breachAt typeNumber numberFrom same
 other-alone t k x y z l = rw (ne-eqb 1 t (λ e. omega arith), ne-eqb 5 t (λ e. omega arith), ne-eqb 6 t (λ e. omega arith), ne-eqb 9 t (λ e. omega arith))
+
+-- ---- the types that have a rule
+
+-- a type that has none breaks none
+pub unruled : (hs : List House) (t k : ℕ) (x y z : Float) → isRuled hs t ≡ false → breachAt hs t k x y z ≡ false
+unfolding breachAt isRuled
+unruled [] t k x y z e = refl
+unruled (h ∷ hs) t k x y z e =
+    let a = or-false-left (eqb (h .type) t) (isRuled hs t) e in
+    let b = unruled hs t k x y z (or-false-right (eqb (h .type) t) (isRuled hs t) e) in
+    λ i. a i && eqb (h .real) k && breaks (h .rule) x y z || b i
+
+unruled-past : (hs : List House) (t n : ℕ) → T (all (λ (h : House). leb (h .type) n) hs) → n < t → isRuled hs t ≡ false
+unfolding isRuled all
+unruled-past [] t n h l = refl
+unruled-past (h ∷ hs) t n p l =
+    let a : h .type ≤ n = leb→le (h .type) n (and-l (leb (h .type) n) (all (λ (x : House). leb (x .type) n) hs) p) in
+    let b = unruled-past hs t n (and-r (leb (h .type) n) (all (λ (x : House). leb (x .type) n) hs) p) l in
+    rw (ne-eqb (h .type) t (λ e. omega arith)) b
+
+alike : (a b : Bool) → T (Bool·beq a b) → a ≡ b
+alike true true h = refl
+alike false false h = refl
+
+-- the code's test
+abbrev tested : ℕ → Bool
+tested t = leb 1 t && leb t 9 && not (eqb t 4) || leb 18 t && leb t 23
+
+pub ruled-is : (t : ℕ) → tested t ≡ isRuled houseRules t
+unfolding isRuled typeNumber numberFrom same all
+ruled-is t = go (le-or-lt 26 t)
+  where
+    go : (26 ≤ t) ⊎ (t < 26) → tested t ≡ isRuled houseRules t
+    go (inl l) = rw (le-leb 1 t (omega arith), lt-leb t 9 (omega arith), le-leb 18 t (omega arith), lt-leb t 23 (omega arith)) (sym (unruled-past houseRules t 25 tt (omega arith)))
+    go (inr l) = alike (tested t) (isRuled houseRules t) (entry (λ k u. Bool·beq (tested k) (isRuled houseRules k)) tt (replicate {A = Unit {0}} 26 tt) tt t l)

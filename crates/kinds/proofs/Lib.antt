@@ -1,5 +1,2 @@
-pub mod CopyLaws
 pub mod CountLaws
 pub mod HouseLaws
-pub mod NameLaws
-pub mod RowLaws

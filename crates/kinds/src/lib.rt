@@ -1,75 +1,18 @@
-// The 25 types: their groups, names, counts and house rules.
+// The 25 types: their groups, counts and house rules.
 ghost use mathlib.Core.Path.{_≡_};
-ghost use Prim.Native.Nat.{_*_, _≤_, _<_};
-ghost use Rattle.laws.specs.Bytes.{part};
+ghost use Prim.Native.Nat.{_≤_, _<_};
 ghost use Rattle.scene.specs.HouseRules.{breachAt, houseRules, isAbove0, isAtLeast0, is0};
-ghost use Rattle.scene.specs.Types.{allows, isMaterial, isModifier, isRetired, isSurface, realsAllowed, stringsAllowed, typeName, typeNumber};
-ghost use Rattle.kinds.specs.Names.{padded};
-ghost use Rattle.kinds.specs.Rules.{coneBreach, names, ringBreach, rowNumber, ruleOf};
+ghost use Rattle.scene.specs.Types.{allows, isMaterial, isModifier, isRetired, isSurface, kindOf, realsAllowed, stringsAllowed};
+ghost use Rattle.kinds.specs.Rules.{coneBreach, isRuled, ringBreach, ruleOf};
 use scene::Mode;
-
-// A name: ten bytes, and how many of them, from the first on, are its own.
-pub struct Name(pub [u8; 10], pub usize);
-
-// The names one behind the other, with blanks behind each to ten bytes, and how many bytes are each name's own. A table of
-// numbers is proved in no time, one of structs in seconds.
-const NAMES: [u8; 250] = *b"source    \
-    sphere    \
-    bubble    \
-    polygon   \
-    cone      \
-    cup       \
-    cylinder  \
-    tube      \
-    ring      \
-    light     \
-    illum     \
-    glow      \
-    spotlight \
-    mirror    \
-    plastic   \
-    metal     \
-    trans     \
-    plastic2  \
-    metal2    \
-    trans2    \
-    dielectric\
-    interface \
-    glass     \
-    antimatter\
-    mixfunc   ";
-
-const LENGTHS: [usize; 25] = [
-    6, // source
-    6, // sphere
-    6, // bubble
-    7, // polygon
-    4, // cone
-    3, // cup
-    8, // cylinder
-    4, // tube
-    4, // ring
-    5, // light
-    5, // illum
-    4, // glow
-    9, // spotlight
-    6, // mirror
-    7, // plastic
-    5, // metal
-    5, // trans
-    8, // plastic2
-    6, // metal2
-    6, // trans2
-    10, // dielectric
-    9, // interface
-    5, // glass
-    10, // antimatter
-    7, // mixfunc
-];
 
 // A rule on a count, as a number: below 100 exactly so many, and from there on so many or more. Corners are a multiple of 3,
 // at least 9.
 const OR_MORE: u32 = 100;
+
+const ONE_OR_MORE: u32 = OR_MORE + 1;
+
+const FOUR_OR_MORE: u32 = OR_MORE + 4;
 
 const THREE_OR_FOUR: u32 = 200;
 
@@ -77,67 +20,13 @@ const CORNERS: u32 = 201;
 
 const ANY: u32 = 202;
 
-const STRINGS: [u32; 25] = [
-    0, // source
-    0, // sphere
-    0, // bubble
-    0, // polygon
-    0, // cone
-    0, // cup
-    0, // cylinder
-    0, // tube
-    0, // ring
-    0, // light
-    1, // illum
-    0, // glow
-    0, // spotlight
-    1, // mirror
-    0, // plastic
-    0, // metal
-    0, // trans
-    OR_MORE + 4, // plastic2
-    OR_MORE + 4, // metal2
-    OR_MORE + 4, // trans2
-    0, // dielectric
-    0, // interface
-    0, // glass
-    OR_MORE + 1, // antimatter
-    OR_MORE + 4, // mixfunc
-];
-
-const REALS: [u32; 25] = [
-    4, // source
-    4, // sphere
-    4, // bubble
-    CORNERS, // polygon
-    8, // cone
-    8, // cup
-    7, // cylinder
-    7, // tube
-    8, // ring
-    3, // light
-    3, // illum
-    4, // glow
-    7, // spotlight
-    3, // mirror
-    5, // plastic
-    5, // metal
-    7, // trans
-    6, // plastic2
-    6, // metal2
-    8, // trans2
-    5, // dielectric
-    8, // interface
-    THREE_OR_FOUR, // glass
-    0, // antimatter
-    ANY, // mixfunc
-];
-
 const SOURCE: u32 = 1;
 
 const SPHERE: u32 = 2;
 
 const BUBBLE: u32 = 3;
+
+const POLYGON: u32 = 4;
 
 const CONE: u32 = 5;
 
@@ -196,64 +85,6 @@ pub fn is_retired(mode: Mode, t: u32) -> bool
     }
 }
 
-// The row of a type's number in the tables; number 0 has the one past their last, as it is of no type.
-fn row(t: u32) -> usize
-    ensures { λ r. ⌜ r ≡ rowNumber t ⌝ }
-{
-    if t == 0 {
-        return 25;
-    }
-    (t - 1) as usize
-}
-
-// The ten bytes of row k of the names.
-fn spelling(k: usize) -> [u8; 10]
-    requires { ⌜ k < 25 ⌝ }
-    ensures { λ r. ⌜ r ≡ part names (k * 10) 10 ⌝ }
-{
-    let names = NAMES;
-    let mut bytes = *b"          ";
-    let mut i = 0;
-    while i < 10 {
-        bytes[i] = names[k * 10 + i];
-        i += 1;
-    }
-    bytes
-}
-
-// The name of a type's number; none past the last type.
-pub fn type_name(t: u32) -> Name
-    ensures { λ r. ⌜ r ≡ padded (typeName t) ⌝ }
-{
-    let k = row(t);
-    if 25 <= k {
-        return Name(*b"          ", 0);
-    }
-    let bytes = spelling(k);
-    Name(bytes, LENGTHS[k])
-}
-
-// The number of the type with a name, 0 for none.
-pub fn type_number(word: &[u8]) -> u32
-    ensures { λ r. ⌜ r ≡ typeNumber (now (word .entry)) ⌝ }
-{
-    let names = NAMES; // laid out once
-    let lengths = LENGTHS;
-    let mut t: usize = 0;
-    'search: while t < 25 {
-        let place = t * 10;
-        let len = lengths[t];
-        t += 1;
-        if word.len() != len {
-            continue 'search;
-        }
-        if lexer::same(word, lexer::part(&names, place, len)) {
-            return t as u32;
-        }
-    }
-    0
-}
-
 fn allowed(rule: u32, n: u32) -> bool
     ensures { λ r. ⌜ r ≡ allows (ruleOf rule) n ⌝ }
 {
@@ -272,26 +103,86 @@ fn allowed(rule: u32, n: u32) -> bool
     true
 }
 
+// The rule on a type's count of strings. A `match` on numbers is one look-up; a constant table would be laid out anew at each use.
+fn strings_rule(t: u32) -> u32
+    ensures { λ r. ⌜ ruleOf r ≡ kindOf t .strings ⌝ }
+{
+    match t {
+        1 => 0, // source
+        2 => 0, // sphere
+        3 => 0, // bubble
+        4 => 0, // polygon
+        5 => 0, // cone
+        6 => 0, // cup
+        7 => 0, // cylinder
+        8 => 0, // tube
+        9 => 0, // ring
+        10 => 0, // light
+        11 => 1, // illum
+        12 => 0, // glow
+        13 => 0, // spotlight
+        14 => 1, // mirror
+        15 => 0, // plastic
+        16 => 0, // metal
+        17 => 0, // trans
+        18 => FOUR_OR_MORE, // plastic2
+        19 => FOUR_OR_MORE, // metal2
+        20 => FOUR_OR_MORE, // trans2
+        21 => 0, // dielectric
+        22 => 0, // interface
+        23 => 0, // glass
+        24 => ONE_OR_MORE, // antimatter
+        25 => FOUR_OR_MORE, // mixfunc
+        _ => ANY,
+    }
+}
+
+// The rule on a type's count of reals.
+fn reals_rule(t: u32) -> u32
+    ensures { λ r. ⌜ ruleOf r ≡ kindOf t .reals ⌝ }
+{
+    match t {
+        1 => 4, // source
+        2 => 4, // sphere
+        3 => 4, // bubble
+        4 => CORNERS, // polygon
+        5 => 8, // cone
+        6 => 8, // cup
+        7 => 7, // cylinder
+        8 => 7, // tube
+        9 => 8, // ring
+        10 => 3, // light
+        11 => 3, // illum
+        12 => 4, // glow
+        13 => 7, // spotlight
+        14 => 3, // mirror
+        15 => 5, // plastic
+        16 => 5, // metal
+        17 => 7, // trans
+        18 => 6, // plastic2
+        19 => 6, // metal2
+        20 => 8, // trans2
+        21 => 5, // dielectric
+        22 => 8, // interface
+        23 => THREE_OR_FOUR, // glass
+        24 => 0, // antimatter
+        25 => ANY, // mixfunc
+        _ => ANY,
+    }
+}
+
 // Whether a type may have n strings. A number past the last type may have any.
 pub fn strings_allowed(t: u32, n: u32) -> bool
     ensures { λ r. ⌜ r ≡ stringsAllowed t n ⌝ }
 {
-    let k = row(t);
-    if 25 <= k {
-        return true;
-    }
-    allowed(STRINGS[k], n)
+    allowed(strings_rule(t), n)
 }
 
 // Whether a type may have n reals.
 pub fn reals_allowed(t: u32, n: u32) -> bool
     ensures { λ r. ⌜ r ≡ realsAllowed t n ⌝ }
 {
-    let k = row(t);
-    if 25 <= k {
-        return true;
-    }
-    allowed(REALS[k], n)
+    allowed(reals_rule(t), n)
 }
 
 fn is_above_0(x: f64) -> bool
@@ -369,6 +260,13 @@ fn other_breaches(t: u32, count: u32, x: f64) -> bool
         return ((4 == count) & !is_above_0(x)) | ((8 == count) & !is_above_0(x));
     }
     false
+}
+
+// Whether a type has a house rule.
+pub fn is_ruled(t: u32) -> bool
+    ensures { λ r. ⌜ r ≡ isRuled houseRules t ⌝ }
+{
+    (SOURCE <= t) & (t <= RING) & (t != POLYGON) | (PLASTIC2 <= t) & (t <= GLASS)
 }
 
 // Whether real number `count` of a type, after `previous` and before that `first`, breaks a house rule.

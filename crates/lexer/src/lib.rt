@@ -1,8 +1,9 @@
 // The bytes and words of a text.
 ghost use mathlib.Core.Bool.{cond};
 ghost use mathlib.Core.Path.{_≡_};
-ghost use Prim.Native.Nat.{min};
+ghost use Prim.Native.Nat.{_≤_, min};
 ghost use lib.Dec.{leb};
+ghost use lib.ListN.{length, take};
 ghost use Rattle.laws.specs.Bytes.{part, same};
 ghost use Rattle.laws.specs.Runs.{past};
 ghost use Rattle.lexer.specs.Class.{classOf, isBlank, isGood, isInLine, isOther, isRun};
@@ -386,25 +387,39 @@ pub fn least(a: usize, b: usize) -> usize
     if a < b { a } else { b }
 }
 
-// Whether two words have the same bytes. They are compared from the last byte on, where names of a kind differ first.
+// Whether the first n bytes of two words are the same. Each is compared, with no branch, so that many go at a time.
+fn all_same(a: &[u8], b: &[u8], n: usize) -> bool
+    requires { ⌜ (n ≤ length (now a)) × (n ≤ length (now b)) ⌝ }
+    ensures { λ r. ⌜ r ≡ same (take n (now (a .entry))) (take n (now (b .entry))) ⌝ }
+{
+    let mut ok = true;
+    let mut i = 0;
+    while i < n {
+        ok = ok & (a[i] == b[i]);
+        i += 1;
+    }
+    ok
+}
+
+// Whether two words have the same bytes. The last byte is compared first: names of a kind mostly differ there.
 pub fn same(a: &[u8], b: &[u8]) -> bool
     ensures { λ r. ⌜ r ≡ same (now (a .entry)) (now (b .entry)) ⌝ }
 {
     if a.len() != b.len() {
         return false;
     }
-    let mut i = a.len();
-    while 0 < i {
-        i -= 1;
-        if a[i] != b[i] {
-            return false;
-        }
+    if a.len() == 0 {
+        return true;
     }
-    true
+    let last = a.len() - 1;
+    if a[last] != b[last] {
+        return false;
+    }
+    all_same(a, b, last)
 }
 
 // The first place from `at` on whose byte is not good in a word, or the text's length.
-fn good_end(text: &[u8], at: usize) -> usize
+pub fn good_end(text: &[u8], at: usize) -> usize
     ensures { λ r. ⌜ r ≡ past isGood (now (text .entry)) at ⌝ }
 {
     let mut i = at;
@@ -438,7 +453,7 @@ pub struct Checked {
 }
 
 // Whether no word goes on at a place: a blank or the text's end is there.
-fn ends_word(text: &[u8], at: usize) -> bool
+pub fn ends_word(text: &[u8], at: usize) -> bool
     ensures { λ r. ⌜ r ≡ endsWord (now (text .entry)) at ⌝ }
 {
     if text.len() <= at {

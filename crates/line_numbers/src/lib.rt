@@ -9,7 +9,7 @@ use table::LINE;
 use table::NAME;
 
 // 1 for a byte that ends a line, else 0.
-fn ends_line(b: u8) -> usize
+pub fn ends_line(b: u8) -> usize
     ensures { λ r. ⌜ r ≡ cond (eqb b 10) 1 0 ⌝ }
 {
     if b == b'\n' { 1 } else { 0 }

@@ -18,7 +18,7 @@ use Rattle.index.proofs.TableLaws.{enters-there, finds-looked, finds-number, le
 use Rattle.index.specs.Lent.{lent, lookedBy}
 use Rattle.index.specs.Searches.{sought}
 use Rattle.index.specs.declared.Found.{Found}
-use Rattle.linker.specs.Entered.{earlierIn, enteredIn, indexedIn, recordFrom, rowOf, toldIn}
+use Rattle.linker.specs.Entered.{earlierIn, enteredAt, enteredIn, indexedIn, recordFrom, rowOf, toldIn}
 use Rattle.statement.specs.States.{clipped}
 use Rattle.statement.specs.declared.Draft.{Draft}
 use Rattle.scene.proofs.FlatLaws.{flat-next, link, flat-snoc, flat-length}
@@ -142,7 +142,7 @@ module _ (text : Bytes) (table x : List ℕ) (e : Entry) (es : List Entry) (d : 
       ap clipped ((λ i. lineFrom text (w i) ((q ∙ statements-length es) i) (own i .name)) ∙ line-goes-on text es (length table) place rises) ∙ omega (arith, few)
 
   pub enters : lastName es ≤ e .places .name → length text ≤ 65536 → enteredIn text table x n d ≡ filled 0 (length table) (flat text (records (e ∷ es)))
-  unfolding enteredIn
+  unfolding enteredAt
   enters rises short =
       let rows = length table / width in
       let small : min (n + 1) 4294967295 ≡ n + 1 = omega arith in

@@ -9,10 +9,9 @@ use borrow.Author.Tests.{le-leb, lt-leb}
 use lib.ListN.{length, getD, set, take, drop}
 use lib.Seq.{paste, paste-suc, sets, sets-eq, take-length}
 use Rattle.laws.specs.Bytes.{Bytes, part}
-use Rattle.line_numbers.specs.Lines.{lineFrom}
 use Rattle.index.specs.Searches.{sought}
 use Rattle.index.specs.declared.Found.{Found}
-use Rattle.linker.specs.Entered.{behindIn, earlierIn, enteredIn, indexedIn, rowOf, toldIn}
+use Rattle.linker.specs.Entered.{behindIn, earlierIn, enteredAt, indexedIn, lookedIn, rowOf, toldIn}
 use Rattle.statement.specs.States.{between, clipped, countedIn}
 use Rattle.statement.specs.declared.State.{State}
 use Rattle.scene.specs.Record.{width, nextField}
@@ -53,27 +52,41 @@ module _ (text : Bytes) (T x : List ℕ) (n : ℕ) (d : Draft) where
   unfolding earlierIn
   earlier-found e h p f = f ∙ rw (← e, h) (ap (sought text T x n) p)
 
--- the statement of the state t is entered
-module _ (text : Bytes) (T x : List ℕ) (t : State) where
+  -- the draft entered with its line
+
   abbrev rows : ℕ
   rows = length T / width
 
-  abbrev Behind : State → List ℕ → List ℕ → Type 0
-  Behind s T′ x′ = (s ≡ behindIn text T x t) × ((T′ ≡ enteredIn text T x (t .count) (t .draft)) × (x′ ≡ indexedIn text T x (t .count) (t .draft)))
+  module _ (line : ℕ) where
+    abbrev In : ℕ → List ℕ → List ℕ → Type 0
+    In looked T′ x′ = (looked ≡ lookedIn text T x n d) × ((T′ ≡ enteredAt text T x n d line) × (x′ ≡ indexedIn text T x n d))
 
-  pub entered-none : rows ≤ t .count → {s : State} → s ≡ between (t .at) (t .count) (t .used) (t .looked) → Behind s T x
-  unfolding behindIn enteredIn indexedIn
-  entered-none h q = (rw (le-leb rows (t .count) h) q, (rw (le-leb rows (t .count) h), rw (le-leb rows (t .count) h)))
+    pub in-none : rows ≤ n → In 0 T x
+    unfolding lookedIn enteredAt indexedIn
+    in-none h = (rw (le-leb rows n h), (rw (le-leb rows n h), rw (le-leb rows n h)))
 
-  pub entered-one : t .count < rows → {line number : ℕ} {f : Found} {T₁ T₂ x′ : List ℕ} {u s : State}
-      → line ≡ clipped (lineFrom text T (t .count) (t .draft .name)) → f ≡ earlierIn text T x (t .count) (t .draft) → number ≡ clipped (t .count + 1)
-      → T₁ ≡ toldIn T (f .number) number → T₂ ≡ sets T₁ (t .count * width) (rowOf (t .draft) line) → x′ ≡ set x (f .entry) number
-      → u ≡ countedIn t (f .looked) → s ≡ between (t .at) (t .count + 1) (t .used) (u .looked) → Behind s T₂ x′
-  unfolding behindIn enteredIn indexedIn
-  entered-one h l e m told row put count q = (
-    rw (lt-leb rows (t .count) h) (q ∙ (λ i. between (t .at) (t .count + 1) (t .used) ((ap (λ (z : State). z .looked) count ∙ ap (λ (f : Found). clipped (t .looked + f .looked)) e) i))),
-    (
-      rw (lt-leb rows (t .count) h) (row ∙ (λ i. sets ((told ∙ (λ j. toldIn T (e j .number) (m j))) i) (t .count * width) (rowOf (t .draft) (l i)))),
-      rw (lt-leb rows (t .count) h) (put ∙ (λ i. set x (e i .entry) (m i))),
-    ),
-  )
+    pub in-one : n < rows → {number : ℕ} {f : Found} {T₁ T₂ x′ : List ℕ}
+        → f ≡ earlierIn text T x n d → number ≡ clipped (n + 1) → T₁ ≡ toldIn T (f .number) number → T₂ ≡ sets T₁ (n * width) (rowOf d line) → x′ ≡ set x (f .entry) number
+        → In (f .looked) T₂ x′
+    unfolding lookedIn enteredAt indexedIn
+    in-one h e m told row put = (
+      rw (lt-leb rows n h) (ap (λ (z : Found). z .looked) e),
+      (
+        rw (lt-leb rows n h) (row ∙ ap (λ (z : List ℕ). sets z (n * width) (rowOf d line)) (told ∙ (λ j. toldIn T (e j .number) (m j)))),
+        rw (lt-leb rows n h) (put ∙ (λ i. set x (e i .entry) (m i))),
+      ),
+    )
+
+-- the state then
+module _ (text : Bytes) (T x : List ℕ) (t : State) where
+  abbrev room : ℕ
+  room = length T / width
+
+  pub behind-none : room ≤ t .count → {s : State} → s ≡ between (t .at) (t .count) (t .used) (t .looked) → s ≡ behindIn text T x t
+  unfolding behindIn
+  behind-none h q = rw (le-leb room (t .count) h) q
+
+  pub behind-one : t .count < room → {looked : ℕ} {u s : State} → looked ≡ lookedIn text T x (t .count) (t .draft)
+      → u ≡ countedIn t looked → s ≡ between (t .at) (t .count + 1) (t .used) (u .looked) → s ≡ behindIn text T x t
+  unfolding behindIn lookedIn
+  behind-one h l c q = rw (lt-leb room (t .count) h) (q ∙ ap (λ (z : State). between (t .at) (t .count + 1) (t .used) (z .looked)) c ∙ ap (λ (z : ℕ). between (t .at) (t .count + 1) (t .used) (clipped (t .looked + z))) (l ∙ rw (lt-leb room (t .count) h)))

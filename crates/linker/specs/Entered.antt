@@ -34,16 +34,24 @@ toldIn table (suc k) number = cond (leb (suc k) (length table / width)) (set tab
 unfoldable pub earlierIn : Bytes → List ℕ → List ℕ → ℕ → Draft → Found
 earlierIn text table x n d = cond (isSurface (d .kind)) (record { entry = length x; number = 0; looked = 0 }) (sought text table x n (part text (d .name) (d .size)))
 
--- that record is told of record n + 1, which the draft becomes; nothing is entered where there is no room
-unfoldable pub enteredIn : Bytes → List ℕ → List ℕ → ℕ → Draft → List ℕ
-enteredIn text table x n d =
-    cond (leb (length table / width) n) table (sets (toldIn table (earlierIn text table x n d .number) (clipped (n + 1))) (n * width) (rowOf d (clipped (lineFrom text table n (d .name)))))
+-- that record is told of record n + 1, which the draft becomes, with its line; nothing is entered where there is no room
+unfoldable pub enteredAt : Bytes → List ℕ → List ℕ → ℕ → Draft → (line : ℕ) → List ℕ
+enteredAt text table x n d line =
+    cond (leb (length table / width) n) table (sets (toldIn table (earlierIn text table x n d .number) (clipped (n + 1))) (n * width) (rowOf d line))
+
+-- the line being that of its name, counted on from the name before
+abbrev pub enteredIn : Bytes → List ℕ → List ℕ → ℕ → Draft → List ℕ
+enteredIn text table x n d = enteredAt text table x n d (clipped (lineFrom text table n (d .name)))
 
 -- its number is written where the search ended
 unfoldable pub indexedIn : Bytes → List ℕ → List ℕ → ℕ → Draft → List ℕ
 indexedIn text table x n d = cond (leb (length table / width) n) x (set x (earlierIn text table x n d .entry) (clipped (n + 1)))
 
--- and the entries looked at are counted
+-- how many entries were looked at for it
+unfoldable pub lookedIn : Bytes → List ℕ → List ℕ → ℕ → Draft → ℕ
+lookedIn text table x n d = cond (leb (length table / width) n) 0 (earlierIn text table x n d .looked)
+
+-- and they are counted
 unfoldable pub behindIn : Bytes → List ℕ → List ℕ → State → State
 behindIn text table x t =
     cond (leb (length table / width) (t .count)) (between (t .at) (t .count) (t .used) (t .looked)) (between (t .at) (t .count + 1) (t .used) (clipped (t .looked + earlierIn text table x (t .count) (t .draft) .looked)))

@@ -3,7 +3,7 @@ ghost use mathlib.Core.Path.{_≡_};
 ghost use Prim.Native.Nat.{_+_, _*_, _≤_};
 ghost use lib.ListN.{length};
 ghost use lib.Seq.{sets};
-ghost use Rattle.linker.specs.Entered.{behindIn, earlierIn, enteredIn, indexedIn, rowOf, toldIn};
+ghost use Rattle.linker.specs.Entered.{behindIn, earlierIn, enteredAt, enteredIn, indexedIn, lookedIn, rowOf, toldIn};
 ghost use Rattle.scene.specs.Record.{width};
 use index::Found;
 use statement::Draft;
@@ -73,8 +73,32 @@ fn earlier(text: &[u8], records: &[u32], index: &[u32], count: usize, d: Draft) 
     index::search(text, records, index, count, name)
 }
 
-// The finished statement becomes record `count`, counted from 0, where the table has room for it; a non-surface is entered into the
-// index where the search for its name ended.
+// The draft becomes record `count`, counted from 0, with its line, where the table has room for it; a non-surface is entered into the
+// index where the search for its name ended. The answer is how many entries were looked at.
+pub fn enter_row(
+    text: &[u8],
+    records: &mut [u32],
+    index: &mut [u32],
+    count: usize,
+    d: Draft,
+    line: u32,
+) -> u32
+    ensures { λ r. ⌜ r ≡ lookedIn (now (text .entry)) (now (records .entry)) (now (index .entry)) count d ⌝ }
+    ensures { λ _. ⌜ now (records .exit) ≡ enteredAt (now (text .entry)) (now (records .entry)) (now (index .entry)) count d line ⌝ }
+    ensures { λ _. ⌜ now (index .exit) ≡ indexedIn (now (text .entry)) (now (records .entry)) (now (index .entry)) count d ⌝ }
+{
+    if records.len() / WIDTH <= count {
+        return 0;
+    }
+    let found = earlier(text, records, index, count, d);
+    let number = narrow(count + 1);
+    tell_next(records, found.number, number);
+    put_row(records, count, d, line);
+    index::put(index, found.entry, number);
+    found.looked
+}
+
+// The finished statement is entered.
 pub fn enter(text: &[u8], records: &mut [u32], index: &mut [u32], t: State) -> State
     ensures { λ r. ⌜ r ≡ behindIn (now (text .entry)) (now (records .entry)) (now (index .entry)) t ⌝ }
     ensures { λ _. ⌜ now (records .exit) ≡ enteredIn (now (text .entry)) (now (records .entry)) (now (index .entry)) (t .count) (t .draft) ⌝ }
@@ -85,13 +109,8 @@ pub fn enter(text: &[u8], records: &mut [u32], index: &mut [u32], t: State) -> S
         return statement::between(t.at, count, t.used, t.looked);
     }
     let d = t.draft;
-    let line = narrow(line_numbers::line_of(text, records, count, wide(d.name)));
-    let found = earlier(text, records, index, count, d);
     let last = count + 1;
-    let number = narrow(last);
-    tell_next(records, found.number, number);
-    put_row(records, count, d, line);
-    index::put(index, found.entry, number);
-    let u = statement::counted(t, found.looked);
+    let line = narrow(line_numbers::line_of(text, records, count, wide(d.name)));
+    let u = statement::counted(t, enter_row(text, records, index, count, d, line));
     statement::between(t.at, last, t.used, u.looked)
 }

@@ -1,5 +1,5 @@
 -- A coefficient below the limit times or over an exact power of ten is the double nearest to the product or the quotient.
-use mathlib.Core.Bool.{Bool, true, false, cond, and-false, or-true}
+use mathlib.Core.Bool.{Bool, true, false, cond, and-false, or-true, false≢true}
 use mathlib.Core.Path.{_≡_, refl, sym, ap, _∙_}
 use Prim.Native.Nat.{ℕ, zero, suc, _+_, _-_, _*_, _^_, _≤_, _<_, min}
 use native.Mathlib.Nat.{one-mul, mul-assoc, zero-mul, zero-lt-suc, mul-pos, pow-suc}
@@ -13,7 +13,9 @@ use lib.IntN.{pos}
 use lib.Pow.{pow-add}
 use Rattle.steps.proofs.DoubleLaws.{mul-val, div-val, neg-round, round-zero}
 use Rattle.laws.proofs.NatLaws.{cut}
+use Rattle.numeral.specs.Exactly.{Exactly}
 use Rattle.numeral.specs.Numeral.{value, refusal, inRange, nearest, numberOf}
+use Rattle.numeral.specs.declared.ExactValue.{ExactValue}
 use Rattle.numeral_parts.specs.Saturated.{limit}
 
 pub ten-pos : (k : ℕ) → 0 < 10 ^ k
@@ -87,6 +89,13 @@ module _ (s : Bool) (c up down : ℕ) where
 
     pub number-zero : c ≡ 0 → y ≡ cond s (neg (fin false 0 (pos 0))) (fin false 0 (pos 0)) → value y ≡ numberOf s c up down
     number-zero z = signed (no-power z) (fin false 0 (pos 0)) (sym (ap (λ (n : ℕ). nearest false n up down) z ∙ nearest-zero false up down))
+
+  -- an answer with a value, and one without
+  pub exact-value : (y : Float) → value y ≡ numberOf s c up down → Exactly s c up down record { good = true; value = y }
+  exact-value y e = record { found = λ _. e; not-found = λ f. absurd (false≢true (sym f)) }
+
+  pub exact-none : (r : ExactValue) → r .good ≡ false → ((c ≡ 0 → ⊥) → refusal 15 ≡ numberOf s c up down) → Exactly s c up down r
+  exact-none r f e = record { found = λ g. absurd (false≢true (sym f ∙ g)); not-found = λ _. e }
 
 -- a coefficient past the limit is as good as the limit
 pub number-capped : (s : Bool) (c up down : ℕ) → numberOf s (min limit c) up down ≡ numberOf s c up down

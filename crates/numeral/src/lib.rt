@@ -8,6 +8,7 @@ ghost use mathlib.Core.Path.{_≡_};
 ghost use Prim.Native.Nat.{_^_, _<_};
 ghost use Rattle.laws.specs.Bytes.{part};
 ghost use Rattle.numeral.specs.Count.{counted, countOf};
+ghost use Rattle.numeral.specs.Exactly.{Exactly};
 ghost use Rattle.numeral.specs.Numeral.{answerOf, numeralOf, reason};
 ghost use Rattle.numeral.specs.Powered.{poweredBy};
 ghost use Rattle.numeral_parts.specs.Read.{exponentIn};
@@ -21,6 +22,12 @@ pub enum Numeral {
     Value(f64),
     Malformed,
     TooLarge,
+}
+
+// A value, where it was found by one exact step.
+pub struct ExactValue {
+    pub good: bool,
+    pub value: f64,
 }
 
 // Document 01's number of an answer: 0 for a value, else the reason for refusing.
@@ -90,6 +97,13 @@ fn powered(negative: bool, c: u64, after: u64, word: &[u8]) -> Numeral
         Exponent::Up(n) => double::number(negative, c, n, after),
         Exponent::Down(n) => double::number(negative, c, 0, after + n),
     }
+}
+
+// c times 10 to the power up less down, where c is below the limit and the power from -22 to 22.
+pub fn exact(negative: bool, c: u64, up: u64, down: u64) -> ExactValue
+    ensures { λ r. ⌜ Exactly negative c up down r ⌝ }
+{
+    double::exact(negative, c, up, down)
 }
 
 // The numeral in a part of a text; of a part that runs past the text's end, in what is there.

@@ -40,7 +40,7 @@ fn put_head(
 fn put_primitive(out: &mut [u8], c: Cursor, text: &[u8], records: &[u32], n: usize) -> Cursor
     ensures { λ r. ⌜ Puts (now (out .entry)) c (primitiveText (now (text .entry)) (now (records .entry)) n) r (now (out .exit)) ⌝ }
 {
-    let kind = kinds::type_name(table::field(records, n, table::KIND));
+    let kind = type_names::type_name(table::field(records, n, table::KIND));
     let bytes = kind.0;
     let name = table::field(records, n, table::NAME) as usize;
     let strings = table::field(records, n, table::STRINGS);

@@ -182,5 +182,12 @@ advance-rise r g (first b) o h = let l = h .low in record { rising = h .rising; 
 advance-rise r g command o h = tt
 advance-rise r g (ended w) o h = settle-rise r g h (word r (g .phase) w) (word-outcome r (lastName (g .above)) (g .at) (g .places) (g .scan) (g .phase) w o (h .phase)) (test r (statements (g .above)) (g .phase) w)
 
+rise-along : (r : Settings) (t : Bytes) (g : Going) → run r initial t ≡ going g → Rise r g
+rise-along r t g e = subst (RiseS r) e (along r (RiseS r) (λ n p. tt) (advance-rise r) t initial (record { rising = tt; low = omega arith; phase = tt }))
+
 pub names-rise : (r : Settings) (t : Bytes) (g : Going) → run r initial t ≡ going g → Rising (g .above)
-names-rise r t g e = subst (RiseS r) e (along r (RiseS r) (λ n p. tt) (advance-rise r) t initial (record { rising = tt; low = omega arith; phase = tt })) .rising
+names-rise r t g e = rise-along r t g e .rising
+
+-- the latest name stands before the place reached
+pub name-passed : (r : Settings) (t : Bytes) (g : Going) → run r initial t ≡ going g → lastName (g .above) ≤ g .at
+name-passed r t g e = rise-along r t g e .low

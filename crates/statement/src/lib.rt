@@ -200,7 +200,7 @@ pub fn kind(word: &[u8], mode: Mode, s: State, v: Seen) -> Step
     if lexer::same(word, b"alias") {
         return going(s, Phase::AliasName, 0, d);
     }
-    let t = kinds::type_number(word);
+    let t = type_names::type_number(word);
     if t == 0 {
         return Step::Refused(8, v.place);
     }

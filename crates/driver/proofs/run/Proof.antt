@@ -1,21 +1,21 @@
 -- `driver::run` meets its contract.
 use mathlib.Core.List.{List}
 use mathlib.Core.Path.{_≡_, refl, sym, ap, subst, _∙_}
-use Prim.Native.Nat.{ℕ, _+_, _-_}
+use Prim.Native.Nat.{ℕ, _+_, _-_, _<_}
 use native.Mathlib.Omega.{arith}
-use borrow.Author.Needs.{needs}
 use lib.Ieee.{Float}
 use lib.ListN.{length, length-set, replicate}
 use Rattle.driver.proofs.EndLaws.{ends-accepted, first-inv, reads-as, refuses-with, too-long}
-use Rattle.driver.proofs.MoveLaws.{gets-on}
-use Rattle.driver.proofs.NextLaws.{ready}
-use Rattle.driver.specs.Invariant.{Inv, Ready}
+use Rattle.progress.proofs.MoveLaws.{gets-on}
+use Rattle.progress.proofs.NextLaws.{ready}
+use Rattle.progress.specs.Invariant.{Inv, Ready}
 use Rattle.laws.specs.Bytes.{Bytes}
 use Rattle.scene.specs.HouseRules.{zeroReal}
 use Rattle.scene.specs.declared.Mode.{Mode}
 use Rattle.scene.specs.declared.Settings.{Settings}
 use Rattle.statement.specs.declared.State.{State}
 use Rattle.statement.specs.declared.Step.{Step}
+use borrow.Author.Needs.{needs}
 use Rattle.driver.proofs.run.Statement.{statement}
 use Rattle.driver.proofs.run.Tie as tie
 
@@ -39,11 +39,7 @@ same-length-3 c = search needs
 
 returns : tie.Need-returns Inv-loop μ-loop
 unfolding lib.Ieee.ofBits
-returns c =
-    let at-clear = c .before .before .before .before .before .before .before in
-    let a = at-clear .before .before .before .before .before .before .before .before .args in
-    let cleared = at-clear .clear-all .ensures in
-    too-long (a .mode) (a .text .now) (a .records .now) (a .reals .now) (a .index .now) _ _ _ (cleared .0) (cleared .1 .0) (cleared .1 .1) (c .if1 .taken)
+returns c = too-long ((c .before .before .before .before .before .before .before .before .before .before .before .before .before .before .before .args) .mode) ((c .before .before .before .before .before .before .before .before .before .before .before .before .before .before .before .args) .text .now) ((c .before .before .before .before .before .before .before .before .before .before .before .before .before .before .before .args) .records .now) ((c .before .before .before .before .before .before .before .before .before .before .before .before .before .before .before .args) .reals .now) ((c .before .before .before .before .before .before .before .before .before .before .before .before .before .before .before .args) .index .now) _ _ _ ((c .before .before .before .before .before .before .before .clear-all) .ensures .0) ((c .before .before .before .before .before .before .before .clear-all) .ensures .1 .0) ((c .before .before .before .before .before .before .before .clear-all) .ensures .1 .1) ((c .if1) .taken)
 
 settings-for-requires : tie.Need-settings-for-requires Inv-loop μ-loop
 settings-for-requires c κs = search needs
@@ -53,62 +49,75 @@ between-requires c κs = search needs
 
 loop-holds : tie.Need-loop-holds Inv-loop μ-loop
 unfolding lib.Ieee.ofBits
-loop-holds c =
-    let at-if1 = c .before .before in
-    let at-clear = at-if1 .before .before .before .before .before .before .before in
-    let a = at-clear .before .before .before .before .before .before .before .before .args in
-    let cleared = at-clear .clear-all .ensures in
-    (subst (Inv _ _ _ _ _) (sym (c .between .ensures)) (first-inv _ _ (a .records .now) (a .reals .now) (a .index .now) _ _ _ (cleared .0) (cleared .1 .0) (cleared .1 .1) (at-if1 .if1 .left) _ (c .before .settings-for .ensures)), refl, refl, refl)
+loop-holds c = (subst (Inv _ _ _ _ _) (sym ((c .between) .ensures)) (first-inv _ _ ((c .before .before .before .before .before .before .before .before .before .before .before .before .before .before .before .before .before .args) .records .now) ((c .before .before .before .before .before .before .before .before .before .before .before .before .before .before .before .before .before .args) .reals .now) ((c .before .before .before .before .before .before .before .before .before .before .before .before .before .before .before .before .before .args) .index .now) _ _ _ ((c .before .before .before .before .before .before .before .before .before .clear-all) .ensures .0) ((c .before .before .before .before .before .before .before .before .before .clear-all) .ensures .1 .0) ((c .before .before .before .before .before .before .before .before .before .clear-all) .ensures .1 .1) ((c .before .before .if1) .left) _ ((c .before .settings-for) .ensures)), refl, refl, refl)
 
--- a turn of the loop, once its step is taken: the text, the tables, the settings and the state, and what holds of them
+-- a turn of the loop, once its step is taken: the text, the tables and the state behind the plain statements, the settings, and what
+-- holds of them
 module _ (p : tie.After-next-step Inv-loop μ-loop) where
   abbrev mode : Mode
-  mode = p .before .before .before .before .before .before .before .before .before .before .before .before .before .before .before .before .before .before .before .before .before .before .args .mode
+  mode = p .before .before .before .before .before .before .before .before .before .before .before .before .before .before .before .before .before .before .before .before .before .before .before .before .before .before .before .before .before .before .before .before .args .mode
 
   abbrev text : Bytes
-  text = p .before .before .before .before .before .before .before .before .before .before .before .before .before .before .before .before .before .before .before .before .before .before .args .text .now
+  text = p .before .before .before .before .before .before .before .before .before .before .before .before .before .before .before .before .before .before .before .before .before .before .before .before .before .before .before .before .before .before .before .before .args .text .now
 
   abbrev lent-records : List ℕ
-  lent-records = p .before .before .before .before .before .before .before .before .before .before .before .before .before .before .before .before .before .before .before .before .before .before .args .records .now
+  lent-records = p .before .before .before .before .before .before .before .before .before .before .before .before .before .before .before .before .before .before .before .before .before .before .before .before .before .before .before .before .before .before .before .before .args .records .now
 
   abbrev lent-reals : List Float
-  lent-reals = p .before .before .before .before .before .before .before .before .before .before .before .before .before .before .before .before .before .before .before .before .before .before .args .reals .now
+  lent-reals = p .before .before .before .before .before .before .before .before .before .before .before .before .before .before .before .before .before .before .before .before .before .before .before .before .before .before .before .before .before .before .before .before .args .reals .now
 
   abbrev lent-index : List ℕ
-  lent-index = p .before .before .before .before .before .before .before .before .before .before .before .before .before .before .before .before .before .before .before .before .before .before .args .index .now
+  lent-index = p .before .before .before .before .before .before .before .before .before .before .before .before .before .before .before .before .before .before .before .before .before .before .before .before .before .before .before .before .before .before .before .before .args .index .now
 
   abbrev records : List ℕ
-  records = p .before .before .before .before .loop .records
+  records = p .before .before .before .before .before .before .before .before .before .before .statements .last .1 .0
 
   abbrev reals : List Float
-  reals = p .before .before .before .before .loop .reals
+  reals = p .before .before .before .before .before .before .before .before .before .before .statements .last .1 .1 .0
 
   abbrev index : List ℕ
-  index = p .before .before .before .before .loop .index
+  index = p .before .before .before .before .before .before .before .before .before .before .statements .last .1 .1 .1 .0
 
   abbrev settings : Settings
-  settings = p .before .before .before .before .before .before .settings-for .result
+  settings = p .before .before .before .before .before .before .before .before .before .before .before .before .before .before .before .before .settings-for .result
 
   abbrev state : State
-  state = p .before .before .before .before .loop .s
+  state = p .before .before .before .before .before .before .before .before .before .before .statements .result
 
   inv : Inv text records reals index settings state
-  inv = p .before .before .before .before .loop .inv .0
+  inv = p .before .before .before .before .before .before .before .before .before .before .statements .ensures .0 (p .before .before .before .before .before .before .before .before .before .before .before .before .before .before .loop .inv .0)
 
   in-mode : settings .mode ≡ mode
-  in-mode = ap (λ (z : Settings). z .mode) (p .before .before .before .before .before .before .settings-for .ensures)
+  in-mode = ap (λ (z : Settings). z .mode) (p .before .before .before .before .before .before .before .before .before .before .before .before .before .before .before .before .settings-for .ensures)
+
+  -- the tables keep their lengths, from the loop's start on and from the call on
+  same-records : length records ≡ length (p .before .before .before .before .before .before .before .before .before .before .before .before .before .before .before .before .before .before .before .before .before .before .before .before .clear-all .last .0)
+  same-records = p .before .before .before .before .before .before .before .before .before .before .statements .kept .1 .0 ∙ p .before .before .before .before .before .before .before .before .before .before .before .before .before .before .loop .inv .1
+
+  same-reals : length reals ≡ length (p .before .before .before .before .before .before .before .before .before .before .before .before .before .before .before .before .before .before .before .before .before .before .before .before .clear-all .last .1 .0)
+  same-reals = p .before .before .before .before .before .before .before .before .before .before .statements .kept .1 .1 .0 ∙ p .before .before .before .before .before .before .before .before .before .before .before .before .before .before .loop .inv .2
+
+  same-index : length index ≡ length (p .before .before .before .before .before .before .before .before .before .before .before .before .before .before .before .before .before .before .before .before .before .before .before .before .clear-all .last .1 .1 .0)
+  same-index = p .before .before .before .before .before .before .before .before .before .before .statements .kept .1 .1 .1 .0 ∙ p .before .before .before .before .before .before .before .before .before .before .before .before .before .before .loop .inv .3
 
   kept-records : length records ≡ length lent-records
-  kept-records = p .before .before .before .before .loop .inv .1 ∙ p .before .before .before .before .before .before .before .before .before .before .before .before .before .before .clear-all .kept .0
+  kept-records = same-records ∙ p .before .before .before .before .before .before .before .before .before .before .before .before .before .before .before .before .before .before .before .before .before .before .before .before .clear-all .kept .0
 
   kept-reals : length reals ≡ length lent-reals
-  kept-reals = p .before .before .before .before .loop .inv .2 ∙ p .before .before .before .before .before .before .before .before .before .before .before .before .before .before .clear-all .kept .1 .0
+  kept-reals = same-reals ∙ p .before .before .before .before .before .before .before .before .before .before .before .before .before .before .before .before .before .before .before .before .before .before .before .before .clear-all .kept .1 .0
 
   kept-index : length index ≡ length lent-index
-  kept-index = p .before .before .before .before .loop .inv .3 ∙ p .before .before .before .before .before .before .before .before .before .before .before .before .before .before .clear-all .kept .1 .1 .0
+  kept-index = same-index ∙ p .before .before .before .before .before .before .before .before .before .before .before .before .before .before .before .before .before .before .before .before .before .before .before .before .clear-all .kept .1 .1 .0
 
   steps-to : (e : Step) → p .next-step .result ≡ e → Ready text records reals index settings state e
   steps-to e q = ready _ _ _ _ _ _ inv _ _ (p .next-step .ensures) q
+
+  -- a step from the state behind the plain statements gets on from where the turn began
+  on-from : (n : ℕ) → length text + 1 - n < length text + 1 - state .at → length text + 1 - n < length text + 1 - p .before .before .before .before .before .before .before .before .before .before .before .before .before .before .loop .s .at
+  on-from n h = omega (arith, p .before .before .before .before .before .before .before .before .before .before .statements .ensures .1)
+
+statements-requires : tie.Need-statements-requires Inv-loop μ-loop
+statements-requires c κs = search needs
 
 next-step-requires : tie.Need-next-step-requires Inv-loop μ-loop
 next-step-requires c κs = search needs
@@ -117,61 +126,43 @@ enum-known-t : tie.Need-enum-known-t Inv-loop μ-loop
 enum-known-t c = search needs
 
 loop-less : tie.Need-loop-less Inv-loop μ-loop
-loop-less c = let r = steps-to (c .before .before .before) _ (c .before .t .given .1) in gets-on _ _ _ _ _ _ (r .0) _ (r .1)
+loop-less c = let r = steps-to (c .before .before .before) _ ((c .before .t) .given .1) in on-from (c .before .before .before) _ (gets-on _ _ _ _ _ _ (r .0) _ (r .1))
 
 loop-again : tie.Need-loop-again Inv-loop μ-loop
-loop-again c =
-    let at-step = c .before .before .before in
-    let i = at-step .before .before .before .before .loop .inv in
-    (steps-to at-step _ (c .before .t .given .1) .0, i .1, i .2, i .3)
+loop-again c = (steps-to (c .before .before .before) _ ((c .before .t) .given .1) .0, same-records (c .before .before .before), same-reals (c .before .before .before), same-index (c .before .before .before))
 
 enum-known-t-2 : tie.Need-enum-known-t-2 Inv-loop μ-loop
 enum-known-t-2 c = search needs
 
 mul-reals : tie.Need-mul-reals Inv-loop μ-loop
-mul-reals c =
-    let at-step = c .before .before .before in
-    omega (arith, steps-to at-step _ (c .before .t2 .given .1) .0, kept-reals at-step, at-step .before .before .before .before .before .before .before .before .before .before .before .before .before .before .before .before .before .before .before .before .before .before .good .1 .1 .1 .0 .1)
+mul-reals c = omega (arith, steps-to (c .before .before .before) _ ((c .before .t2) .given .1) .0, kept-reals (c .before .before .before), (c .before .before .before .before .before .before .before .before .before .before .before .before .before .before .before .before .before .before .before .before .before .before .before .before .before .before .before .before .before .before .before .before .before .before .before) .good .1 .1 .1 .0 .1)
 
 slice-write-reals : tie.Need-slice-write-reals Inv-loop μ-loop
-slice-write-reals c = steps-to (c .before .before .before) _ (c .before .t2 .given .1) .0
+slice-write-reals c = steps-to (c .before .before .before) _ ((c .before .t2) .given .1) .0
 
 loop-less-2 : tie.Need-loop-less-2 Inv-loop μ-loop
-loop-less-2 c = let r = steps-to (c .before .before .before) _ (c .before .t2 .given .1) .1 _ refl in gets-on _ _ _ _ _ _ (r .0) _ (r .1)
+loop-less-2 c = let r = steps-to (c .before .before .before) _ ((c .before .t2) .given .1) .1 _ refl in on-from (c .before .before .before) _ (gets-on _ _ _ _ _ _ (r .0) _ (r .1))
 
 loop-again-2 : tie.Need-loop-again-2 Inv-loop μ-loop
-loop-again-2 c =
-    let at-step = c .before .before .before in
-    let i = at-step .before .before .before .before .loop .inv in
-    (steps-to at-step _ (c .before .t2 .given .1) .1 _ refl .0, i .1, simp length-set (i .2), i .3)
+loop-again-2 c = (steps-to (c .before .before .before) _ ((c .before .t2) .given .1) .1 _ refl .0, same-records (c .before .before .before), simp length-set (same-reals (c .before .before .before)), same-index (c .before .before .before))
 
 enum-known-t-3 : tie.Need-enum-known-t-3 Inv-loop μ-loop
 enum-known-t-3 c = search needs
 
 mul-reals-2 : tie.Need-mul-reals-2 Inv-loop μ-loop
-mul-reals-2 c =
-    let at-step = c .before .before .before in
-    omega (arith, steps-to at-step _ (c .before .t3 .given .1) .0, kept-reals at-step, at-step .before .before .before .before .before .before .before .before .before .before .before .before .before .before .before .before .before .before .before .before .before .before .good .1 .1 .1 .0 .1)
+mul-reals-2 c = omega (arith, steps-to (c .before .before .before) _ ((c .before .t3) .given .1) .0, kept-reals (c .before .before .before), (c .before .before .before .before .before .before .before .before .before .before .before .before .before .before .before .before .before .before .before .before .before .before .before .before .before .before .before .before .before .before .before .before .before .before .before) .good .1 .1 .1 .0 .1)
 
 slice-write-reals-2 : tie.Need-slice-write-reals-2 Inv-loop μ-loop
-slice-write-reals-2 c = steps-to (c .before .before .before) _ (c .before .t3 .given .1) .0
+slice-write-reals-2 c = steps-to (c .before .before .before) _ ((c .before .t3) .given .1) .0
 
 enter-requires : tie.Need-enter-requires Inv-loop μ-loop
 enter-requires c κs = search needs
 
--- the statement is entered, behind its last real
 loop-less-3 : tie.Need-loop-less-3 Inv-loop μ-loop
-loop-less-3 c =
-    let e = c .before .before .before .before .enter in
-    let r = steps-to (c .before .before .before .before .before .before .before .before .before .before) _ (c .before .before .before .before .before .before .before .before .t3 .given .1) .1 _ _ _ _ refl (record { state = e .ensures .0; stored = e .ensures .1 .0; held = e .ensures .1 .1; sized = e .kept .1 .0; spread = e .kept .1 .1 .0 }) in
-    gets-on _ _ _ _ _ _ (r .0) _ (r .1)
+loop-less-3 c = let r = steps-to (c .before .before .before .before .before .before .before .before .before .before) _ ((c .before .before .before .before .before .before .before .before .t3) .given .1) .1 _ _ _ _ refl (record { state = (c .before .before .before .before .enter) .ensures .0; stored = (c .before .before .before .before .enter) .ensures .1 .0; held = (c .before .before .before .before .enter) .ensures .1 .1; sized = (c .before .before .before .before .enter) .kept .1 .0; spread = (c .before .before .before .before .enter) .kept .1 .1 .0 }) in on-from (c .before .before .before .before .before .before .before .before .before .before) _ (gets-on _ _ _ _ _ _ (r .0) _ (r .1))
 
 loop-again-3 : tie.Need-loop-again-3 Inv-loop μ-loop
-loop-again-3 c =
-    let e = c .before .before .before .before .enter in
-    let i = c .before .before .before .before .before .before .before .before .before .before .before .before .before .before .loop .inv in
-    let r = steps-to (c .before .before .before .before .before .before .before .before .before .before) _ (c .before .before .before .before .before .before .before .before .t3 .given .1) .1 _ _ _ _ refl (record { state = e .ensures .0; stored = e .ensures .1 .0; held = e .ensures .1 .1; sized = e .kept .1 .0; spread = e .kept .1 .1 .0 }) in
-    (r .0, e .kept .1 .0 ∙ i .1, simp length-set (i .2), e .kept .1 .1 .0 ∙ i .3)
+loop-again-3 c = (steps-to (c .before .before .before .before .before .before .before .before .before .before) _ ((c .before .before .before .before .before .before .before .before .t3) .given .1) .1 _ _ _ _ refl (record { state = (c .before .before .before .before .enter) .ensures .0; stored = (c .before .before .before .before .enter) .ensures .1 .0; held = (c .before .before .before .before .enter) .ensures .1 .1; sized = (c .before .before .before .before .enter) .kept .1 .0; spread = (c .before .before .before .before .enter) .kept .1 .1 .0 }) .0, (c .before .before .before .before .enter) .kept .1 .0 ∙ same-records (c .before .before .before .before .before .before .before .before .before .before), simp length-set (same-reals (c .before .before .before .before .before .before .before .before .before .before)), (c .before .before .before .before .enter) .kept .1 .1 .0 ∙ same-index (c .before .before .before .before .before .before .before .before .before .before))
 
 enum-known-t-4 : tie.Need-enum-known-t-4 Inv-loop μ-loop
 enum-known-t-4 c = search needs
@@ -179,19 +170,11 @@ enum-known-t-4 c = search needs
 enter-requires-2 : tie.Need-enter-requires-2 Inv-loop μ-loop
 enter-requires-2 c κs = search needs
 
--- and without one
 loop-less-4 : tie.Need-loop-less-4 Inv-loop μ-loop
-loop-less-4 c =
-    let e = c .before .before .before .before .enter2 in
-    let r = steps-to (c .before .before .before .before .before .before .before .before .before .before) _ (c .before .before .before .before .before .before .before .before .t4 .given .1) _ _ _ (record { state = e .ensures .0; stored = e .ensures .1 .0; held = e .ensures .1 .1; sized = e .kept .1 .0; spread = e .kept .1 .1 .0 }) in
-    gets-on _ _ _ _ _ _ (r .0) _ (r .1)
+loop-less-4 c = let r = steps-to (c .before .before .before .before .before .before .before .before .before .before) _ ((c .before .before .before .before .before .before .before .before .t4) .given .1) _ _ _ (record { state = (c .before .before .before .before .enter2) .ensures .0; stored = (c .before .before .before .before .enter2) .ensures .1 .0; held = (c .before .before .before .before .enter2) .ensures .1 .1; sized = (c .before .before .before .before .enter2) .kept .1 .0; spread = (c .before .before .before .before .enter2) .kept .1 .1 .0 }) in on-from (c .before .before .before .before .before .before .before .before .before .before) _ (gets-on _ _ _ _ _ _ (r .0) _ (r .1))
 
 loop-again-4 : tie.Need-loop-again-4 Inv-loop μ-loop
-loop-again-4 c =
-    let e = c .before .before .before .before .enter2 in
-    let i = c .before .before .before .before .before .before .before .before .before .before .before .before .before .before .loop .inv in
-    let r = steps-to (c .before .before .before .before .before .before .before .before .before .before) _ (c .before .before .before .before .before .before .before .before .t4 .given .1) _ _ _ (record { state = e .ensures .0; stored = e .ensures .1 .0; held = e .ensures .1 .1; sized = e .kept .1 .0; spread = e .kept .1 .1 .0 }) in
-    (r .0, e .kept .1 .0 ∙ i .1, i .2, e .kept .1 .1 .0 ∙ i .3)
+loop-again-4 c = (steps-to (c .before .before .before .before .before .before .before .before .before .before) _ ((c .before .before .before .before .before .before .before .before .t4) .given .1) _ _ _ (record { state = (c .before .before .before .before .enter2) .ensures .0; stored = (c .before .before .before .before .enter2) .ensures .1 .0; held = (c .before .before .before .before .enter2) .ensures .1 .1; sized = (c .before .before .before .before .enter2) .kept .1 .0; spread = (c .before .before .before .before .enter2) .kept .1 .1 .0 }) .0, (c .before .before .before .before .enter2) .kept .1 .0 ∙ same-records (c .before .before .before .before .before .before .before .before .before .before), same-reals (c .before .before .before .before .before .before .before .before .before .before), (c .before .before .before .before .enter2) .kept .1 .1 .0 ∙ same-index (c .before .before .before .before .before .before .before .before .before .before))
 
 enum-known-reason : tie.Need-enum-known-reason Inv-loop μ-loop
 enum-known-reason c = search needs
@@ -200,21 +183,17 @@ clear-all-requires-2 : tie.Need-clear-all-requires-2 Inv-loop μ-loop
 clear-all-requires-2 c κs = search needs
 
 same-length-4 : tie.Need-same-length-4 Inv-loop μ-loop
-same-length-4 c = c .before .before .before .before .before .before .clear-all2 .kept .0 ∙ kept-records (c .before .before .before .before .before .before .before .before .before .before .before .before .before)
+same-length-4 c = (c .before .before .before .before .before .before .clear-all2) .kept .0 ∙ kept-records (c .before .before .before .before .before .before .before .before .before .before .before .before .before)
 
 same-length-5 : tie.Need-same-length-5 Inv-loop μ-loop
-same-length-5 c = c .before .before .before .before .before .before .clear-all2 .kept .1 .0 ∙ kept-reals (c .before .before .before .before .before .before .before .before .before .before .before .before .before)
+same-length-5 c = (c .before .before .before .before .before .before .clear-all2) .kept .1 .0 ∙ kept-reals (c .before .before .before .before .before .before .before .before .before .before .before .before .before)
 
 same-length-6 : tie.Need-same-length-6 Inv-loop μ-loop
-same-length-6 c = c .before .before .before .before .before .before .clear-all2 .kept .1 .1 .0 ∙ kept-index (c .before .before .before .before .before .before .before .before .before .before .before .before .before)
+same-length-6 c = (c .before .before .before .before .before .before .clear-all2) .kept .1 .1 .0 ∙ kept-index (c .before .before .before .before .before .before .before .before .before .before .before .before .before)
 
 returns-2 : tie.Need-returns-2 Inv-loop μ-loop
 unfolding lib.Ieee.ofBits
-returns-2 c =
-    let cleared = c .before .before .before .before .before .before .clear-all2 .ensures in
-    let p = c .before .before .before .before .before .before .before .before .before .before .before .before .before in
-    refuses-with (mode p) (text p) (lent-records p) (lent-reals p) (lent-index p) _ _ _ (cleared .0 ∙ ap (λ (n : ℕ). replicate n 0) (kept-records p)) (cleared .1 .0 ∙ ap (λ (n : ℕ). replicate n zeroReal) (kept-reals p)) (cleared .1 .1 ∙ ap (λ (n : ℕ). replicate n 0) (kept-index p)) _ _
-    (reads-as (mode p) (text p) (lent-records p) (lent-reals p) (lent-index p) _ _ _ _ _ (inv p) (in-mode p) (kept-records p) (kept-reals p) (kept-index p) ∙ steps-to p _ (c .before .before .before .before .before .before .before .before .before .before .before .reason .given .1))
+returns-2 c = let p = (c .before .before .before .before .before .before .before .before .before .before .before .before .before) in refuses-with (mode p) (text p) (lent-records p) (lent-reals p) (lent-index p) _ _ _ ((c .before .before .before .before .before .before .clear-all2) .ensures .0 ∙ ap (λ (n : ℕ). replicate n 0) (kept-records p)) ((c .before .before .before .before .before .before .clear-all2) .ensures .1 .0 ∙ ap (λ (n : ℕ). replicate n zeroReal) (kept-reals p)) ((c .before .before .before .before .before .before .clear-all2) .ensures .1 .1 ∙ ap (λ (n : ℕ). replicate n 0) (kept-index p)) _ _ (reads-as (mode p) (text p) (lent-records p) (lent-reals p) (lent-index p) _ _ _ _ _ (inv p) (in-mode p) (kept-records p) (kept-reals p) (kept-index p) ∙ steps-to p _ ((c .before .before .before .before .before .before .before .before .before .before .before .reason) .given .1))
 
 enum-told : tie.Need-enum-told Inv-loop μ-loop
 enum-told c = search needs
@@ -229,9 +208,7 @@ same-length-9 : tie.Need-same-length-9 Inv-loop μ-loop
 same-length-9 c = kept-index (c .before .before)
 
 returns-3 : tie.Need-returns-3 Inv-loop μ-loop
-returns-3 c =
-    let p = c .before .before in
-    ends-accepted (mode p) (text p) (lent-records p) (lent-reals p) (lent-index p) _ _ _ _ _ (inv p) (in-mode p) (kept-records p) (kept-reals p) (kept-index p) _ _ _ (steps-to p _ (c .enum-told .given .1))
+returns-3 c = let p = (c .before .before) in ends-accepted (mode p) (text p) (lent-records p) (lent-reals p) (lent-index p) _ _ _ _ _ (inv p) (in-mode p) (kept-records p) (kept-reals p) (kept-index p) _ _ _ (steps-to p _ ((c .enum-told) .given .1))
 
 pub run-spec : {M : Type 1} → statement M
 run-spec =
@@ -247,6 +224,7 @@ run-spec =
     settings-for-requires
     between-requires
     loop-holds
+    statements-requires
     next-step-requires
     enum-known-t
     loop-less

@@ -1,6 +1,6 @@
 -- `fields::put_kind` meets its contract.
 use mathlib.Core.Path.{_∙_}
-use Rattle.kinds.proofs.NameLaws.{own-bytes}
+use Rattle.type_names.proofs.NameLaws.{own-bytes}
 use Rattle.scene.specs.Types.{typeName}
 use borrow.Author.Needs.{needs}
 use Rattle.fields.proofs.put_kind.Statement.{statement}

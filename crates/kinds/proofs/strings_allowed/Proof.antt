@@ -1,15 +1,13 @@
--- `kinds::strings_allowed` meets its contract: the table has the types' rules, as antt computes.
-use mathlib.Core.Path.{_∙_}
-use native.Mathlib.Omega.{arith}
-use Rattle.kinds.proofs.CountLaws.{strings-in, any-strings}
+-- `kinds::strings_allowed` meets its contract.
+use mathlib.Core.Path.{ap, _∙_}
+use borrow.Author.Needs.{needs}
+use Rattle.scene.specs.Types.{Rule, allows, stringsAllowed}
 use Rattle.kinds.proofs.strings_allowed.Statement.{statement}
 use Rattle.kinds.proofs.strings_allowed.Tie as tie
 
 returns : tie.Need-returns
-returns c = any-strings _ _ _ (c .before .row .ensures) (c .if1 .taken)
-
-returns-2 : tie.Need-returns-2
-returns-2 c = c .allowed .ensures ∙ strings-in _ _ _ (c .before .before .row .ensures) _ (c .before .if1 .left)
+unfolding stringsAllowed
+returns c = c .allowed .ensures ∙ ap (λ (q : Rule). allows q (c .before .before .args .n)) (c .before .strings-rule .ensures)
 
 pub strings-allowed-spec : {M : Type 1} → statement M
-strings-allowed-spec = tie.close (tie.spec (λ c κs. tt) returns (λ c. omega arith) (λ c. omega arith) (λ c κs. tt) returns-2)
+strings-allowed-spec = tie.close (tie.spec (λ c κs. search needs) (λ c κs. search needs) returns)

@@ -1,56 +1,43 @@
--- `lexer::same` meets its contract: in words of one length, the bytes from the last one on decide.
+-- `lexer::same` meets its contract: words of one length are the same where the last byte is, and the others are.
 use mathlib.Core.Path.{sym}
-use native.Mathlib.Omega.{arith}
 use borrow.Author.Needs.{needs}
-use Rattle.lexer.proofs.SameLaws.{SameFrom, from-before, from-end, from-start, one-differs, same-length}
+use Rattle.lexer.proofs.SameLaws.{one-differs, same-last, same-length, same-none}
 use Rattle.lexer.proofs.same.Statement.{statement}
 use Rattle.lexer.proofs.same.Tie as tie
 
-abbrev Inv-loop : tie.InvT-loop
-Inv-loop a b i₀ i = SameFrom a b i
-
-abbrev μ-loop : tie.MeasureT-loop
-μ-loop a b i₀ i = i
-
-returns : tie.Need-returns Inv-loop μ-loop
+returns : tie.Need-returns
 returns c = sym (same-length _ _ (c .if1 .taken))
 
-loop-holds : tie.Need-loop-holds Inv-loop μ-loop
-loop-holds c = from-end _ _
+returns-2 : tie.Need-returns-2
+returns-2 c = same-none _ _ (c .before .if1 .left) (c .if2 .taken)
 
-sub-i : tie.Need-sub-i Inv-loop μ-loop
-sub-i c = search needs
+sub-last : tie.Need-sub-last
+sub-last c = search needs
 
-shared-slice-read-if2 : tie.Need-shared-slice-read-if2 Inv-loop μ-loop
-shared-slice-read-if2 c = omega (arith, c .before .before .loop .inv .within)
+shared-slice-read-if3 : tie.Need-shared-slice-read-if3
+shared-slice-read-if3 c = search needs
 
-shared-slice-read-if2-2 : tie.Need-shared-slice-read-if2-2 Inv-loop μ-loop
-shared-slice-read-if2-2 c = omega (arith, c .before .before .before .loop .inv .within)
+shared-slice-read-if3-2 : tie.Need-shared-slice-read-if3-2
+shared-slice-read-if3-2 c = search needs
 
-returns-2 : tie.Need-returns-2 Inv-loop μ-loop
-returns-2 c = one-differs _ _ _ (c .if2 .taken)
+returns-3 : tie.Need-returns-3
+returns-3 c = one-differs _ _ _ (c .if3 .taken)
 
-loop-less : tie.Need-loop-less Inv-loop μ-loop
-loop-less c = search needs
+all-same-requires : tie.Need-all-same-requires
+all-same-requires c κs = search needs
 
-loop-again : tie.Need-loop-again Inv-loop μ-loop
-loop-again c = from-before _ _ (c .before .before .before .before .loop .i) (c .before .before .before .loop-test .taken) (c .before .before .before .before .loop .inv) (c .if2 .left)
-
-returns-3 : tie.Need-returns-3 Inv-loop μ-loop
-returns-3 c = from-start _ _ (c .before .before .if1 .left) (c .before .loop .i) (c .loop-test .left) (c .before .loop .inv)
+returns-4 : tie.Need-returns-4
+returns-4 c = same-last _ _ (c .before .before .before .before .before .if1 .left) _ (c .before .before .before .before .if2 .left) (c .before .if3 .left) (c .all-same .ensures)
 
 pub same-spec : {M : Type 1} → statement M
 same-spec =
     tie.close
     (tie.spec
-    Inv-loop
-    μ-loop
     returns
-    loop-holds
-    sub-i
-    shared-slice-read-if2
-    shared-slice-read-if2-2
     returns-2
-    loop-less
-    loop-again
-    returns-3)
+    sub-last
+    shared-slice-read-if3
+    shared-slice-read-if3-2
+    returns-3
+    all-same-requires
+    returns-4)

@@ -1,7 +1,7 @@
 -- `record_text::put_primitive` meets its contract.
 use mathlib.Core.List.{[], _∷_, _++_}
 use mathlib.Core.Path.{ap, _∙_}
-use Rattle.kinds.proofs.NameLaws.{own-bytes}
+use Rattle.type_names.proofs.NameLaws.{own-bytes}
 use Rattle.laws.specs.Bytes.{Bytes}
 use Rattle.lines.proofs.PutsLaws.{puts-more, puts-as}
 use Rattle.lines.specs.Arguments.{argumentLines}

@@ -1,47 +1,50 @@
--- `numeral::double::ten` meets its contract: that each entry is exactly its power of ten is one test over the table, which antt computes.
-use mathlib.Core.Bool.{Bool, true, false}
-use mathlib.Core.List.{List, [], _∷_, map}
-use mathlib.Core.Path.{refl}
-use Prim.Native.Nat.{ℕ, _*_, _^_, _<_}
+-- `numeral::double::ten` meets its contract: each arm's double is computed, and is exactly its power of ten.
+use mathlib.Core.Bool.{Bool, false}
+use mathlib.Core.Path.{_≡_, refl, sym, ap}
+use Prim.Native.Nat.{ℕ, zero, suc, _*_, _^_, _≤_}
 use native.Mathlib.Omega.{arith}
-use borrow.Author.Needs.{needs}
-use lib.Dec.{T, eqb, eqb→eq}
-use lib.Ieee.{Float, nan, inf, fin, binary64, up, down, ofBits}
-use lib.Ieee.Exact.{HasValue}
-use lib.ListN.{getD}
-use Rattle.laws.proofs.TableLaws.{entry}
+use lib.Ieee.{ofBits}
 use Rattle.numeral.proofs.double.ten.Statement.{statement}
 use Rattle.numeral.proofs.double.ten.Tie as tie
 
-tens : List Float
-tens = map (ofBits binary64) (4607182418800017408 ∷ 4621819117588971520 ∷ 4636737291354636288 ∷ 4652007308841189376 ∷ 4666723172467343360 ∷ 4681608360884174848 ∷ 4696837146684686336 ∷ 4711630319722168320 ∷ 4726483295884279808 ∷ 4741671816366391296 ∷ 4756540486875873280 ∷ 4771362005757984768 ∷ 4786511204640096256 ∷ 4801453603149578240 ∷ 4816244402031689728 ∷ 4831355200913801216 ∷ 4846369599423283200 ∷ 4861130398305394688 ∷ 4876203697187506176 ∷ 4891288408196988160 ∷ 4906019910204099648 ∷ 4921056587992461136 ∷ 4936209963552724370 ∷ [])
+-- what `HasValue` asks of a whole double that is 10 to the power n
+tens : {k : ℕ} (n : ℕ) → k ≡ n → (_≡_ {A = Bool} false false) × (10 ^ n * 1 ≡ 10 ^ k * 1)
+tens n e = (refl, ap (λ (j : ℕ). 10 ^ j * 1) (sym e))
 
-exact : ℕ → Float → Bool
-exact k nan = false
-exact k (inf s) = false
-exact k (fin true m e) = false
-exact k (fin false m e) = eqb (m * up e * 1) (10 ^ k * down e)
+-- what is none of the first n numbers is at least n
+abbrev NoneOf : ℕ → ℕ → Type 0
+NoneOf zero k = Unit
+NoneOf (suc n) k = NoneOf n k × (k ≡ n → ⊥)
 
-exact→ : (k : ℕ) (x : Float) → T (exact k x) → HasValue x false (10 ^ k) 1
-unfolding exact
-exact→ k nan t = absurd t
-exact→ k (inf s) t = absurd t
-exact→ k (fin true m e) t = absurd t
-exact→ k (fin false m e) t = (refl, eqb→eq (m * up e * 1) (10 ^ k * down e) t)
-
-holds : (k : ℕ) → k < 23 → HasValue (getD tens k nan) false (10 ^ k) 1
-unfolding tens exact ofBits
-holds k h = exact→ k (getD tens k nan) (entry exact nan tens tt k h)
-
-mul-result : tie.Need-mul-result
-mul-result c = search needs
-
-array-read-result : tie.Need-array-read-result
-array-read-result c = search needs
-
-returns : tie.Need-returns
-unfolding tens
-returns c = holds (c .args .k) (omega arith)
+least : {k : ℕ} (n : ℕ) → NoneOf n k → n ≤ k
+least zero h = omega arith
+least (suc n) h = let l = least n (h .0) in omega arith
 
 pub ten-spec : {M : Type 1} → statement M
-ten-spec = tie.close (tie.spec mul-result array-read-result returns)
+unfolding ofBits
+ten-spec =
+    tie.close
+    (tie.spec
+    (λ c. tens 0 (c .match .keys1))
+    (λ c. tens 1 (c .match .keys2))
+    (λ c. tens 2 (c .match .keys3))
+    (λ c. tens 3 (c .match .keys4))
+    (λ c. tens 4 (c .match .keys5))
+    (λ c. tens 5 (c .match .keys6))
+    (λ c. tens 6 (c .match .keys7))
+    (λ c. tens 7 (c .match .keys8))
+    (λ c. tens 8 (c .match .keys9))
+    (λ c. tens 9 (c .match .keys10))
+    (λ c. tens 10 (c .match .keys11))
+    (λ c. tens 11 (c .match .keys12))
+    (λ c. tens 12 (c .match .keys13))
+    (λ c. tens 13 (c .match .keys14))
+    (λ c. tens 14 (c .match .keys15))
+    (λ c. tens 15 (c .match .keys16))
+    (λ c. tens 16 (c .match .keys17))
+    (λ c. tens 17 (c .match .keys18))
+    (λ c. tens 18 (c .match .keys19))
+    (λ c. tens 19 (c .match .keys20))
+    (λ c. tens 20 (c .match .keys21))
+    (λ c. tens 21 (c .match .keys22))
+    (λ c. tens 22 (omega (arith, least 22 (c .match .rest)))))

@@ -1,0 +1,66 @@
+use Rattle.linker.proofs.TableLaws.{in-none, in-one}
+use borrow.Author.Needs.{needs}
+use Rattle.linker.proofs.enter_row.Statement.{statement}
+use Rattle.linker.proofs.enter_row.Tie as tie
+use Rattle.linker.proofs.enter_row.Reads as reads
+use Rattle.linker.proofs.enter_row.Lts as lts
+use Rattle.index.proofs.put.Reads as put-reads
+use Rattle.linker.proofs.earlier.Reads as earlier-reads
+use Rattle.linker.proofs.put_row.Reads as put-row-reads
+use Rattle.linker.proofs.tell_next.Reads as tell-next-reads
+use Rattle.statement.proofs.narrow.Reads as narrow-reads
+
+-- src/lib.rt:91:9
+returns : tie.Need-returns
+returns c = in-none ((c .before .before .before .before .args) .text .now) ((c .before .before .before .before .args) .records .now) ((c .before .before .before .before .args) .index .now) ((c .before .before .before .before .args) .count) ((c .before .before .before .before .args) .d) ((c .before .before .before .before .args) .line) ((c .if1) .taken)
+
+-- src/lib.rt:93:9
+earlier-requires : tie.Need-earlier-requires
+earlier-requires c κs = search needs
+
+-- src/lib.rt:94:25
+add-narrow : tie.Need-add-narrow
+add-narrow c = search needs
+
+-- src/lib.rt:94:9
+narrow-requires : tie.Need-narrow-requires
+narrow-requires c κs = search needs
+
+-- src/lib.rt:95:5
+tell-next-requires : tie.Need-tell-next-requires
+tell-next-requires c κs = search needs
+
+-- src/lib.rt:96:5
+put-row-requires : tie.Need-put-row-requires
+put-row-requires c κs = search needs
+
+-- src/lib.rt:97:5
+put-requires : tie.Need-put-requires
+put-requires c κs = search needs
+
+-- src/lib.rt:78:1
+same-length : tie.Need-same-length
+same-length c = search needs
+
+-- src/lib.rt:78:1
+same-length-2 : tie.Need-same-length-2
+same-length-2 c = search needs
+
+-- src/lib.rt:78:1
+returns-2 : tie.Need-returns-2
+returns-2 c = in-one ((c .before .before .before .before .before .before .before .before .before .before .before .before .before .before .before .before .before .before .before .before .args) .text .now) ((c .before .before .before .before .before .before .before .before .before .before .before .before .before .before .before .before .before .before .before .before .args) .records .now) ((c .before .before .before .before .before .before .before .before .before .before .before .before .before .before .before .before .before .before .before .before .args) .index .now) ((c .before .before .before .before .before .before .before .before .before .before .before .before .before .before .before .before .before .before .before .before .args) .count) ((c .before .before .before .before .before .before .before .before .before .before .before .before .before .before .before .before .before .before .before .before .args) .d) ((c .before .before .before .before .before .before .before .before .before .before .before .before .before .before .before .before .before .before .before .before .args) .line) ((c .before .before .before .before .before .before .before .before .before .before .before .before .before .before .before .before .if1) .left) ((c .before .before .before .before .before .before .before .before .before .before .before .before .before .earlier) .ensures) ((c .before .before .before .before .before .before .before .before .before .before .before .before .narrow) .ensures) ((c .before .before .before .before .before .before .before .before .before .before .tell-next) .ensures) ((c .before .before .before .before .before .before .put-row) .ensures) ((c .before .before .put) .ensures)
+
+pub enter-row-spec : {M : Type 1} → statement M
+enter-row-spec =
+    tie.close
+    (tie.spec
+    returns
+    earlier-requires
+    add-narrow
+    narrow-requires
+    tell-next-requires
+    put-row-requires
+    put-requires
+    same-length
+    same-length-2
+    returns-2)

@@ -1,0 +1,3 @@
+-- Inner models of the proofs.
+pub mod Scan
+pub mod Pieces

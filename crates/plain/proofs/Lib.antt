@@ -1,0 +1,4 @@
+pub mod StepLaws
+pub mod HeadLaws
+pub mod RealLaws
+pub mod WholeLaws

@@ -1,0 +1,4 @@
+-- Inner models of the proofs.
+pub mod Image
+pub mod Invariant
+pub mod Goes

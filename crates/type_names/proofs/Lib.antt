@@ -1,0 +1,4 @@
+pub mod CopyLaws
+pub mod NameLaws
+pub mod PackLaws
+pub mod RowLaws

@@ -1,6 +1,6 @@
 -- What the functions over the lent tables answer, case by case.
 use mathlib.Core.Bool.{Bool, true, false}
-use mathlib.Core.List.{List, _++_}
+use mathlib.Core.List.{List, [], _∷_}
 use mathlib.Core.Path.{_≡_, refl, ap, sym, _∙_}
 use Prim.Native.Nat.{ℕ, zero, suc, _+_, _-_, _*_, _/_, _≤_, _<_}
 use native.Mathlib.Numerals.{add-one}
@@ -31,14 +31,21 @@ pub told-some : (t : List ℕ) (k v : ℕ) → (k ≡ 0 → ⊥) → k ≤ lengt
 told-some t zero v h l = absurd (h refl)
 told-some t (suc k) v h l = let e : suc k - 1 ≡ k = omega arith in rw (le-leb (suc k) (length t / width) l) (ap (λ (n : ℕ). set t (n * width + nextField) v) (sym e))
 
--- ---- a row, copied number by number
+-- ---- a row, stored number by number
 
-module _ (T row : List ℕ) (at : ℕ) (fits : at + length row ≤ length T) where
-  pub put-more : (i d : ℕ) (t : List ℕ) → i < length row → t ≡ paste T at row i → set t (at + i) (getD row i d) ≡ paste T at row (i + 1)
-  put-more i d t h e = ap (λ (z : List ℕ). set z (at + i) (getD row i d)) e ∙ paste-suc T at row i d (omega arith) h ∙ ap (paste T at row) (sym (add-one i))
-
-  pub put-all : (i : ℕ) (t : List ℕ) → i ≡ length row → t ≡ paste T at row i → t ≡ sets T at row
-  put-all i t h e = e ∙ ap (paste T at row) h ∙ (λ j. take at T ++ take-length row j ++ drop (at + length row) T) ∙ sym (sets-eq row T at fits)
+pub row-stored : (T : List ℕ) (at a0 a1 a2 a3 a4 a5 a6 a7 a8 a9 a10 : ℕ) → set (set (set (set (set (set (set (set (set (set (set T (at) a0) (at + 1) a1) (at + 2) a2) (at + 3) a3) (at + 4) a4) (at + 5) a5) (at + 6) a6) (at + 7) a7) (at + 8) a8) (at + 9) a9) (at + 10) a10 ≡ sets T at (a0 ∷ a1 ∷ a2 ∷ a3 ∷ a4 ∷ a5 ∷ a6 ∷ a7 ∷ a8 ∷ a9 ∷ a10 ∷ [])
+row-stored T at a0 a1 a2 a3 a4 a5 a6 a7 a8 a9 a10 =
+    let e1 : at + 1 ≡ suc at = omega arith in
+    let e2 : at + 2 ≡ suc (suc at) = omega arith in
+    let e3 : at + 3 ≡ suc (suc (suc at)) = omega arith in
+    let e4 : at + 4 ≡ suc (suc (suc (suc at))) = omega arith in
+    let e5 : at + 5 ≡ suc (suc (suc (suc (suc at)))) = omega arith in
+    let e6 : at + 6 ≡ suc (suc (suc (suc (suc (suc at))))) = omega arith in
+    let e7 : at + 7 ≡ suc (suc (suc (suc (suc (suc (suc at)))))) = omega arith in
+    let e8 : at + 8 ≡ suc (suc (suc (suc (suc (suc (suc (suc at))))))) = omega arith in
+    let e9 : at + 9 ≡ suc (suc (suc (suc (suc (suc (suc (suc (suc at)))))))) = omega arith in
+    let e10 : at + 10 ≡ suc (suc (suc (suc (suc (suc (suc (suc (suc (suc at))))))))) = omega arith in
+    λ i. set (set (set (set (set (set (set (set (set (set (set T (at) a0) (e1 i) a1) (e2 i) a2) (e3 i) a3) (e4 i) a4) (e5 i) a5) (e6 i) a6) (e7 i) a7) (e8 i) a8) (e9 i) a9) (e10 i) a10
 
 -- ---- a record entered
 

@@ -18,30 +18,24 @@ fn wide(n: u32) -> usize
     n as usize
 }
 
-// Stores a draft as row `n`, counted from 0, with no next of its name, and the line of its name.
+// Stores a draft as row `n`, counted from 0, with no next of its name, and the line of its name. Number by number: a row that is
+// put together first and copied then waits for its own parts.
 fn put_row(records: &mut [u32], n: usize, d: Draft, line: u32)
     requires { ⌜ n * width + width ≤ length (now records) ⌝ }
     ensures { λ _. ⌜ now (records .exit) ≡ sets (now (records .entry)) (n * width) (rowOf d line) ⌝ }
 {
     let at = n * WIDTH;
-    let row = [
-        d.kind,
-        d.modifier,
-        d.target,
-        d.name,
-        d.size,
-        d.string,
-        d.strings,
-        d.real,
-        d.reals,
-        0,
-        line,
-    ];
-    let mut i = 0;
-    while i < WIDTH {
-        records[at + i] = row[i];
-        i += 1;
-    }
+    records[at] = d.kind;
+    records[at + 1] = d.modifier;
+    records[at + 2] = d.target;
+    records[at + 3] = d.name;
+    records[at + 4] = d.size;
+    records[at + 5] = d.string;
+    records[at + 6] = d.strings;
+    records[at + 7] = d.real;
+    records[at + 8] = d.reals;
+    records[at + 9] = 0;
+    records[at + 10] = line;
 }
 
 // Tells the record of a number which is the next of its name; 0, or one past the table's last, is no record.

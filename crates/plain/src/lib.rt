@@ -346,14 +346,15 @@ fn head_at(text: &[u8], records: &[u32], index: &[u32], settings: Settings, b: B
     primitive(text, settings, c, m.link, kind)
 }
 
-// Whether a real breaks a house rule, so many reals of its statement being left behind it.
+// Whether a real breaks a house rule, so many reals of its statement being left behind it. The first two break none.
 fn breaks(reals: &[f64], d: Draft, left: u32, used: usize, x: f64) -> bool
     ensures { λ r. ⌜ r ≡ breachAt houseRules (d .kind) (d .reals - left) x (back (now (reals .entry)) used 1) (back (now (reals .entry)) used 2) ⌝ }
 {
-    if kinds::is_ruled(d.kind) {
+    let count = arguments::less(d.reals, left);
+    if (3 <= count) & kinds::is_ruled(d.kind) {
         let previous = context::back(reals, used, 1);
         let first = context::back(reals, used, 2);
-        return kinds::breaches(d.kind, arguments::less(d.reals, left), x, previous, first);
+        return kinds::breaches(d.kind, count, x, previous, first);
     }
     false
 }

@@ -144,12 +144,12 @@ fn packed(word: &[u8]) -> u64
     k
 }
 
-// The number of the type with a name, 0 for none. A name of at most seven bytes is found at once.
-pub fn type_number(word: &[u8]) -> u32
-    ensures { λ r. ⌜ r ≡ typeNumber (now (word .entry)) ⌝ }
+// The number of the type with a name of at most seven bytes, found at once; 0 for any other name.
+fn short_number(word: &[u8]) -> u32
+    ensures { λ r. ⌜ ((r ≡ 0 → ⊥) → r ≡ typeNumber (now (word .entry))) ⌝ }
 {
     if 7 < word.len() {
-        return searched(word);
+        return 0;
     }
     match packed(word) {
         0x1_73_6f_75_72_63_65 => 1, // source
@@ -171,6 +171,17 @@ pub fn type_number(word: &[u8]) -> u32
         0x1_74_72_61_6e_73_32 => 20, // trans2
         0x1_67_6c_61_73_73 => 23, // glass
         0x1_6d_69_78_66_75_6e_63 => 25, // mixfunc
-        _ => searched(word),
+        _ => 0,
     }
+}
+
+// The number of the type with a name, 0 for none.
+pub fn type_number(word: &[u8]) -> u32
+    ensures { λ r. ⌜ r ≡ typeNumber (now (word .entry)) ⌝ }
+{
+    let t = short_number(word);
+    if t == 0 {
+        return searched(word);
+    }
+    t
 }

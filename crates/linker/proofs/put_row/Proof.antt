@@ -1,46 +1,154 @@
--- `linker::put_row` meets its contract: the row is copied number by number.
-use mathlib.Core.Path.{_≡_, refl}
-use Prim.Native.Nat.{_-_, _*_, _≤_}
-use native.Mathlib.Omega.{arith}
-use borrow.Author.Needs.{needs}
-use lib.ListN.{length, length-set}
-use lib.Seq.{paste, paste-zero}
-use Rattle.linker.proofs.TableLaws.{put-more, put-all}
-use Rattle.linker.specs.Entered.{rowOf}
+use Prim.Native.Nat.{_*_}
 use Rattle.scene.specs.Record.{width}
+use native.Mathlib.Omega.{arith}
+use lib.ListN.{length-set}
+use Rattle.linker.proofs.TableLaws.{row-stored}
+-- `linker::put_row` meets its contract: the row is stored number by number.
+use borrow.Author.Needs.{needs}
 use Rattle.linker.proofs.put_row.Statement.{statement}
 use Rattle.linker.proofs.put_row.Tie as tie
 
-abbrev Inv-loop : tie.InvT-loop
-Inv-loop records₀ n line at row i₀ records i = (i ≤ width) × (length records ≡ length records₀) × (records ≡ paste records₀ at row i)
+mul-at : tie.Need-mul-at
+mul-at c = search needs
 
-abbrev μ-loop : tie.MeasureT-loop
-μ-loop records₀ n line at row i₀ records i = width - i
+mul-records : tie.Need-mul-records
+mul-records c = search needs
 
-loop-holds : tie.Need-loop-holds Inv-loop μ-loop
-loop-holds c = (omega arith, refl, paste-zero _ (c .args .n * width) (rowOf (c .args .d) (c .args .line)))
+slice-write-records : tie.Need-slice-write-records
+slice-write-records c = search needs
 
-loop-again : tie.Need-loop-again Inv-loop μ-loop
-loop-again c = (omega arith, simp length-set (c .before .loop .inv .1), put-more (c .before .before .args .records .now) (rowOf (c .before .before .args .d) (c .before .before .args .line)) _ (omega arith) _ _ _ (c .loop-test .taken) (c .before .loop .inv .2))
+add-records : tie.Need-add-records
+add-records c = search needs
 
-returns : tie.Need-returns Inv-loop μ-loop
-returns c = put-all (c .before .before .args .records .now) (rowOf (c .before .before .args .d) (c .before .before .args .line)) _ (omega arith) (c .before .loop .i) _ (omega arith) (c .before .loop .inv .2)
+mul-records-2 : tie.Need-mul-records-2
+mul-records-2 c = search needs
+
+slice-write-records-2 : tie.Need-slice-write-records-2
+slice-write-records-2 c = simp length-set (omega arith)
+
+add-records-2 : tie.Need-add-records-2
+add-records-2 c = search needs
+
+mul-records-3 : tie.Need-mul-records-3
+mul-records-3 c = search needs
+
+slice-write-records-3 : tie.Need-slice-write-records-3
+slice-write-records-3 c = simp length-set (omega arith)
+
+add-records-3 : tie.Need-add-records-3
+add-records-3 c = search needs
+
+mul-records-4 : tie.Need-mul-records-4
+mul-records-4 c = search needs
+
+slice-write-records-4 : tie.Need-slice-write-records-4
+slice-write-records-4 c = simp length-set (omega arith)
+
+add-records-4 : tie.Need-add-records-4
+add-records-4 c = search needs
+
+mul-records-5 : tie.Need-mul-records-5
+mul-records-5 c = search needs
+
+slice-write-records-5 : tie.Need-slice-write-records-5
+slice-write-records-5 c = simp length-set (omega arith)
+
+add-records-5 : tie.Need-add-records-5
+add-records-5 c = search needs
+
+mul-records-6 : tie.Need-mul-records-6
+mul-records-6 c = search needs
+
+slice-write-records-6 : tie.Need-slice-write-records-6
+slice-write-records-6 c = simp length-set (omega arith)
+
+add-records-6 : tie.Need-add-records-6
+add-records-6 c = search needs
+
+mul-records-7 : tie.Need-mul-records-7
+mul-records-7 c = search needs
+
+slice-write-records-7 : tie.Need-slice-write-records-7
+slice-write-records-7 c = simp length-set (omega arith)
+
+add-records-7 : tie.Need-add-records-7
+add-records-7 c = search needs
+
+mul-records-8 : tie.Need-mul-records-8
+mul-records-8 c = search needs
+
+slice-write-records-8 : tie.Need-slice-write-records-8
+slice-write-records-8 c = simp length-set (omega arith)
+
+add-records-8 : tie.Need-add-records-8
+add-records-8 c = search needs
+
+mul-records-9 : tie.Need-mul-records-9
+mul-records-9 c = search needs
+
+slice-write-records-9 : tie.Need-slice-write-records-9
+slice-write-records-9 c = simp length-set (omega arith)
+
+add-records-9 : tie.Need-add-records-9
+add-records-9 c = search needs
+
+mul-records-10 : tie.Need-mul-records-10
+mul-records-10 c = search needs
+
+slice-write-records-10 : tie.Need-slice-write-records-10
+slice-write-records-10 c = simp length-set (omega arith)
+
+add-records-10 : tie.Need-add-records-10
+add-records-10 c = search needs
+
+mul-records-11 : tie.Need-mul-records-11
+mul-records-11 c = search needs
+
+slice-write-records-11 : tie.Need-slice-write-records-11
+slice-write-records-11 c = simp length-set (omega arith)
+
+same-length : tie.Need-same-length
+same-length c = simp length-set
+
+returns : tie.Need-returns
+returns c = row-stored ((c .args) .records .now) ((c .args) .n * width) ((c .args) .d .kind) ((c .args) .d .modifier) ((c .args) .d .target) ((c .args) .d .name) ((c .args) .d .size) ((c .args) .d .string) ((c .args) .d .strings) ((c .args) .d .real) ((c .args) .d .reals) 0 ((c .args) .line)
 
 pub put-row-spec : {M : Type 1} → statement M
 put-row-spec =
     tie.close
     (tie.spec
-    Inv-loop
-    μ-loop
-    (λ c. search needs)
-    loop-holds
-    (λ c. search needs)
-    (λ c. search needs)
-    (λ c. search needs)
-    (λ c. search needs)
-    (λ c. search needs)
-    (λ c. search needs)
-    (λ c. search needs)
-    loop-again
-    (λ c. search needs)
+    mul-at
+    mul-records
+    slice-write-records
+    add-records
+    mul-records-2
+    slice-write-records-2
+    add-records-2
+    mul-records-3
+    slice-write-records-3
+    add-records-3
+    mul-records-4
+    slice-write-records-4
+    add-records-4
+    mul-records-5
+    slice-write-records-5
+    add-records-5
+    mul-records-6
+    slice-write-records-6
+    add-records-6
+    mul-records-7
+    slice-write-records-7
+    add-records-7
+    mul-records-8
+    slice-write-records-8
+    add-records-8
+    mul-records-9
+    slice-write-records-9
+    add-records-9
+    mul-records-10
+    slice-write-records-10
+    add-records-10
+    mul-records-11
+    slice-write-records-11
+    same-length
     returns)

@@ -1,9 +1,9 @@
 -- One turn of the hash and of the search, and where each ends.
 use mathlib.Core.Bool.{Bool, true, false, cond}
 use mathlib.Core.List.{List, [], _∷_, _++_}
-use mathlib.Core.Path.{_≡_, refl, ap, sym, _∙_}
+use mathlib.Core.Path.{_≡_, refl, ap, subst, sym, _∙_}
 use Prim.Native.Nat.{ℕ, zero, suc, _+_, _-_, _*_, _/_, _%_, _≤_, _<_}
-use native.Mathlib.Nat.{add-mul-mod-self-left}
+use native.Mathlib.Nat.{add-mul-mod-self-left, mul-add, mul-assoc, mul-left-comm}
 use native.Mathlib.Numerals.{add-one}
 use native.Mathlib.Omega.{arith}
 use borrow.Author.Tests.{eq-eqb, ne-eqb, le-leb, lt-leb}
@@ -25,35 +25,36 @@ pub hash-step : (h : ℕ) (w : Bytes) (i : ℕ) → i < length w → hashFrom h 
 unfolding hashFrom
 hash-step h w i l = rw (add-one, drop-cons w i 0 l)
 
--- two steps are one, and four are
-mod-31 : (x b : ℕ) → (31 * (x % 2048) + b) % 2048 ≡ (31 * x + b) % 2048
-mod-31 x b = sym (add-mul-mod-self-left (31 * (x % 2048) + b) 2048 (31 * (x / 2048))) ∙ (let e : 31 * (x % 2048) + b + 2048 * (31 * (x / 2048)) ≡ 31 * x + b = omega arith in ap (λ (n : ℕ). n % 2048) e)
+-- a step by the factor k taken twice is one by its square
+twice : (k h p q : ℕ) → (k * ((k * h + p) % 2048) + q) % 2048 ≡ (k * k * h + (k * p + q)) % 2048
+twice k h p q =
+    let x : ℕ = k * h + p in
+    let s : x ≡ x % 2048 + 2048 * (x / 2048) = omega arith in
+    let m : k * x ≡ k * (x % 2048) + 2048 * (k * (x / 2048)) = ap (λ (n : ℕ). k * n) s ∙ mul-add k (x % 2048) (2048 * (x / 2048)) ∙ ap (λ (n : ℕ). k * (x % 2048) + n) (mul-left-comm k 2048 (x / 2048)) in
+    let d : k * x ≡ k * k * h + k * p = mul-add k (k * h) p ∙ ap (λ (n : ℕ). n + k * p) (sym (mul-assoc k k h)) in
+    let e : k * (x % 2048) + q + 2048 * (k * (x / 2048)) ≡ k * k * h + (k * p + q) = omega (arith, m, d) in
+    sym (add-mul-mod-self-left (k * (x % 2048) + q) 2048 (k * (x / 2048))) ∙ ap (λ (n : ℕ). n % 2048) e
 
-mod-961 : (x b : ℕ) → (961 * (x % 2048) + b) % 2048 ≡ (961 * x + b) % 2048
-mod-961 x b = sym (add-mul-mod-self-left (961 * (x % 2048) + b) 2048 (961 * (x / 2048))) ∙ (let e : 961 * (x % 2048) + b + 2048 * (961 * (x / 2048)) ≡ 961 * x + b = omega arith in ap (λ (n : ℕ). n % 2048) e)
+-- what four bytes add to a hash
+abbrev pub added : ℕ → ℕ → ℕ → ℕ → ℕ
+added a b c d = 29791 * a + 961 * b + 31 * c + d
 
-two-steps : (h a b : ℕ) → (31 * ((31 * h + a) % 2048) + b) % 2048 ≡ (961 * h + 31 * a + b) % 2048
-two-steps h a b = mod-31 (31 * h + a) b ∙ (let e : 31 * (31 * h + a) + b ≡ 961 * h + 31 * a + b = omega arith in ap (λ (n : ℕ). n % 2048) e)
-
-two-pairs : (h p q : ℕ) → (961 * ((961 * h + p) % 2048) + q) % 2048 ≡ (923521 * h + 961 * p + q) % 2048
-two-pairs h p q = mod-961 (961 * h + p) q ∙ (let e : 961 * (961 * h + p) + q ≡ 923521 * h + 961 * p + q = omega arith in ap (λ (n : ℕ). n % 2048) e)
-
-four-steps : (h a b c d : ℕ) → (31 * ((31 * ((31 * ((31 * h + a) % 2048) + b) % 2048) + c) % 2048) + d) % 2048 ≡ (923521 * h + 29791 * a + 961 * b + 31 * c + d) % 2048
+-- four steps are one
+four-steps : (h a b c d : ℕ) → (31 * ((31 * ((31 * ((31 * h + a) % 2048) + b) % 2048) + c) % 2048) + d) % 2048 ≡ (923521 * h + added a b c d) % 2048
 four-steps h a b c d =
     let k : ℕ = (31 * ((31 * h + a) % 2048) + b) % 2048 in
-    let e : k ≡ (961 * h + (31 * a + b)) % 2048 = two-steps h a b ∙ (let q : 961 * h + 31 * a + b ≡ 961 * h + (31 * a + b) = omega arith in ap (λ (n : ℕ). n % 2048) q) in
-    two-steps k c d
-    ∙ (let q : 961 * k + 31 * c + d ≡ 961 * k + (31 * c + d) = omega arith in ap (λ (n : ℕ). n % 2048) q)
-    ∙ ap (λ (n : ℕ). (961 * n + (31 * c + d)) % 2048) e
-    ∙ two-pairs h (31 * a + b) (31 * c + d)
-    ∙ (let q : 923521 * h + 961 * (31 * a + b) + (31 * c + d) ≡ 923521 * h + 29791 * a + 961 * b + 31 * c + d = omega arith in ap (λ (n : ℕ). n % 2048) q)
+    twice 31 k c d
+    ∙ ap (λ (n : ℕ). (961 * n + (31 * c + d)) % 2048) (twice 31 h a b)
+    ∙ twice 961 h (31 * a + b) (31 * c + d)
+    ∙ (let q : 961 * (31 * a + b) + (31 * c + d) ≡ added a b c d = omega arith in ap (λ (n : ℕ). (923521 * h + n) % 2048) q)
 
 module _ (w : Bytes) where
   pub hashed-none : Hashed w 0 0
   hashed-none = record { small = omega arith; rest = refl }
 
-  pub hashed-four : (h i g : ℕ) → i + 4 ≤ length w → Hashed w h i → g ≡ (923521 * h + 29791 * getD w i 0 + 961 * getD w (i + 1) 0 + 31 * getD w (i + 2) 0 + getD w (i + 3) 0) % 2048 → Hashed w g (i + 4)
-  hashed-four h i g l H e =
+  -- p is what the four bytes from place i on add
+  pub hashed-four : (h i p g : ℕ) → i + 4 ≤ length w → Hashed w h i → p ≡ added (getD w i 0) (getD w (i + 1) 0) (getD w (i + 2) 0) (getD w (i + 3) 0) → g ≡ (923521 * h + p) % 2048 → Hashed w g (i + 4)
+  hashed-four h i p g l H f e =
       let n1 : i + 1 + 1 ≡ i + 2 = omega arith in
       let n2 : i + 2 + 1 ≡ i + 3 = omega arith in
       let n3 : i + 3 + 1 ≡ i + 4 = omega arith in
@@ -64,10 +65,18 @@ module _ (w : Bytes) where
       let s2 = hash-step h1 w (i + 1) (omega arith) ∙ ap (λ (n : ℕ). hashFrom h2 (drop n w)) n1 in
       let s3 = hash-step h2 w (i + 2) (omega arith) ∙ ap (λ (n : ℕ). hashFrom h3 (drop n w)) n2 in
       let s4 = hash-step h3 w (i + 3) (omega arith) ∙ ap (λ (n : ℕ). hashFrom ((31 * h3 + getD w (i + 3) 0) % 2048) (drop n w)) n3 in
-      record {
-        small = omega (arith, e);
-        rest = ap (λ (n : ℕ). hashFrom n (drop (i + 4) w)) (e ∙ sym (four-steps h (getD w i 0) (getD w (i + 1) 0) (getD w (i + 2) 0) (getD w (i + 3) 0))) ∙ sym (s1 ∙ s2 ∙ s3 ∙ s4) ∙ H .rest;
-      }
+      let r : g ≡ (31 * h3 + getD w (i + 3) 0) % 2048 = e ∙ ap (λ (n : ℕ). (923521 * h + n) % 2048) f ∙ sym (four-steps h (getD w i 0) (getD w (i + 1) 0) (getD w (i + 2) 0) (getD w (i + 3) 0)) in
+      record { small = omega (arith, e); rest = ap (λ (n : ℕ). hashFrom n (drop (i + 4) w)) r ∙ sym (s1 ∙ s2 ∙ s3 ∙ s4) ∙ H .rest }
+
+  -- p is what the first four of eight bytes add, q what the last four do
+  pub hashed-eight : (h i p q g : ℕ) → i + 8 ≤ length w → Hashed w h i → p ≡ added (getD w i 0) (getD w (i + 1) 0) (getD w (i + 2) 0) (getD w (i + 3) 0) → q ≡ added (getD w (i + 4) 0) (getD w (i + 5) 0) (getD w (i + 6) 0) (getD w (i + 7) 0) → g ≡ (852891037441 * h + (923521 * p + q)) % 2048 → Hashed w g (i + 8)
+  hashed-eight h i p q g l H f f′ e =
+      let n5 : i + 5 ≡ i + 4 + 1 = omega arith in
+      let n6 : i + 6 ≡ i + 4 + 2 = omega arith in
+      let n7 : i + 7 ≡ i + 4 + 3 = omega arith in
+      let n8 : i + 4 + 4 ≡ i + 8 = omega arith in
+      let k : ℕ = (923521 * h + p) % 2048 in
+      subst (Hashed w g) n8 (hashed-four k (i + 4) q g (omega arith) (hashed-four h i p k (omega arith) H f refl) (f′ ∙ (λ j. added (getD w (i + 4) 0) (getD w (n5 j) 0) (getD w (n6 j) 0) (getD w (n7 j) 0))) (e ∙ sym (twice 923521 h p q)))
 
   pub hashed-step : (h i g : ℕ) → i < length w → Hashed w h i → g ≡ (31 * h + getD w i 0) % 2048 → Hashed w g (i + 1)
   hashed-step h i g l H e = record { small = omega (arith, e); rest = ap (λ (n : ℕ). hashFrom n (drop (i + 1) w)) e ∙ sym (hash-step h w i l) ∙ H .rest }

@@ -1,7 +1,7 @@
 // The hashed index of names, and the one search that every look-up goes through: by the index where one of 2,048 entries is lent,
 // else from the latest record back.
 ghost use mathlib.Core.Path.{_≡_};
-ghost use Prim.Native.Nat.{_+_, _*_, _%_, _≤_, _<_};
+ghost use Prim.Native.Nat.{_+_, _*_, _/_, _%_, _≤_, _<_};
 ghost use lib.ListN.{length, set};
 ghost use Rattle.laws.specs.Bytes.{part, same};
 ghost use Rattle.index.specs.Index.{hash, searched, size, stops};
@@ -34,36 +34,58 @@ fn small(b: u8) -> usize
     b as usize
 }
 
-// A name's hash with four bytes more: four steps of the rule in one.
-fn with_four(h: usize, a: u8, b: u8, c: u8, d: u8) -> usize
-    requires { ⌜ h < size ⌝ }
-    ensures { λ r. ⌜ r ≡ (923521 * h + 29791 * a + 961 * b + 31 * c + d) % 2048 ⌝ }
+// What four bytes add to a hash.
+fn four(a: u8, b: u8, c: u8, d: u8) -> u32
+    ensures { λ r. ⌜ r ≡ 29791 * a + 961 * b + 31 * c + d ⌝ }
 {
-    (923521 * h + 29791 * small(a) + 961 * small(b) + 31 * small(c) + small(d)) % ENTRIES
+    961 * (31 * (a as u32) + (b as u32)) + (31 * (c as u32) + (d as u32))
 }
 
-// The hash of so many times four bytes of a name.
-fn by_fours(word: &[u8], fours: usize) -> usize
-    requires { ⌜ fours * 4 ≤ length (now word) ⌝ }
-    ensures { λ r. ⌜ Hashed (now (word .entry)) r (fours * 4) ⌝ }
+// A name's hash with eight bytes more, eight steps of the rule in one: p is what the first four add, q what the last four do.
+fn with_eight(h: usize, p: u32, q: u32) -> usize
+    requires { ⌜ h < size ⌝ }
+    ensures { λ r. ⌜ r ≡ (852891037441 * h + (923521 * p + q)) % 2048 ⌝ }
+{
+    (852891037441 * h + (923521 * (p as usize) + (q as usize))) % ENTRIES
+}
+
+// The hash of so many times eight bytes of a name.
+fn by_eights(word: &[u8], eights: usize) -> usize
+    requires { ⌜ eights * 8 ≤ length (now word) ⌝ }
+    ensures { λ r. ⌜ Hashed (now (word .entry)) r (eights * 8) ⌝ }
 {
     let mut h: usize = 0;
     let mut i = 0;
-    while i < fours {
-        let at = i * 4;
-        h = with_four(h, word[at], word[at + 1], word[at + 2], word[at + 3]);
+    while i < eights {
+        let at = i * 8;
+        let p = four(word[at], word[at + 1], word[at + 2], word[at + 3]);
+        let q = four(word[at + 4], word[at + 5], word[at + 6], word[at + 7]);
+        h = with_eight(h, p, q);
         i += 1;
     }
     h
+}
+
+// The hash of as many times four bytes as a name has.
+fn by_fours(word: &[u8]) -> usize
+    ensures { λ r. ⌜ Hashed (now (word .entry)) r (length (now (word .entry)) / 4 * 4) ⌝ }
+{
+    let eights = word.len() / 8;
+    let h = by_eights(word, eights);
+    let at = eights * 8;
+    if word.len() - at < 4 {
+        return h;
+    }
+    let p = four(word[at], word[at + 1], word[at + 2], word[at + 3]);
+    (923521 * h + (p as usize)) % ENTRIES
 }
 
 // A name's hash.
 fn hash(word: &[u8]) -> usize
     ensures { λ r. ⌜ r ≡ hash (now (word .entry)) ⌝ }
 {
-    let fours = word.len() / 4;
-    let mut h = by_fours(word, fours);
-    let mut i = fours * 4;
+    let mut h = by_fours(word);
+    let mut i = word.len() / 4 * 4;
     while i < word.len() {
         h = (31 * h + small(word[i])) % ENTRIES;
         i += 1;

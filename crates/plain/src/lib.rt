@@ -3,15 +3,16 @@
 ghost use mathlib.Core.Bool.{cond, false, true};
 ghost use mathlib.Core.List.{List};
 ghost use mathlib.Core.Path.{_≡_};
-ghost use Prim.Native.Nat.{ℕ, _+_, _-_, _≤_};
+ghost use Prim.Native.Nat.{ℕ, _+_, _-_, _≤_, _<_};
 ghost use lib.Dec.{eqb};
-ghost use Rattle.plain.specs.Plain.{Begins, Counting, Fills, Links, Names, Opens, Stores, aliasAt, idleAt, primitiveAt, unfilled};
+ghost use Rattle.plain.specs.Plain.{Begins, Counting, Fills, Links, Names, Opens, Stores, aliasAt, idleAt, primitiveAt, stateAt, unfilled};
 ghost use Rattle.context.specs.Seen.{back};
 ghost use Rattle.progress.specs.Invariant.{Inv};
 ghost use Rattle.scene.specs.HouseRules.{breachAt, houseRules};
 ghost use Rattle.scene.specs.Record.{lineAt};
 ghost use Rattle.scene.specs.declared.Settings.{Settings};
 ghost use Rattle.statement.specs.States.{clipped};
+ghost use Rattle.statement.specs.declared.Phase.the-variants.{Real};
 use scene::Settings;
 use statement::Draft;
 use statement::Phase;
@@ -414,6 +415,23 @@ fn fill(text: &[u8], reals: &mut [f64], settings: Settings, h: Head, used: usize
     f
 }
 
+// The state before a real that is left.
+fn at_real(count: usize, h: Head, f: Filled) -> State
+    requires { ⌜ 0 < f .left ⌝ }
+    ensures { λ r. ⌜ r ≡ stateAt count (f .used) (f .at) (f .left - 1) (h .looked) Real (h .draft) ⌝ }
+{
+    let d = h.draft;
+    State {
+        at: f.at,
+        count,
+        used: f.used,
+        left: f.left - 1,
+        looked: h.looked,
+        phase: Phase::Real,
+        draft: d,
+    }
+}
+
 // Reads statements whole from where a reading stands between two of them, and stores and enters them, as long as they are plain. Within
 // a statement nothing is read.
 pub fn statements(
@@ -444,19 +462,10 @@ pub fn statements(
             return statement::between(b.at, b.count, b.used, b.looked);
         }
         let f = fill(text, reals, settings, h, b.used);
-        let d = h.draft;
         if 0 < f.left {
-            return State {
-                at: f.at,
-                count: b.count,
-                used: f.used,
-                left: f.left - 1,
-                looked: h.looked,
-                phase: Phase::Real,
-                draft: d,
-            };
+            return at_real(b.count, h, f);
         }
-        let more = linker::enter_row(text, records, index, b.count, d, narrow(h.named));
+        let more = linker::enter_row(text, records, index, b.count, h.draft, narrow(h.named));
         b = Between {
             at: f.at,
             line: f.line,

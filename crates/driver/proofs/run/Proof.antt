@@ -39,7 +39,11 @@ same-length-3 c = search needs
 
 returns : tie.Need-returns Inv-loop μ-loop
 unfolding lib.Ieee.ofBits
-returns c = too-long ((c .before .before .before .before .before .before .before .before .before .before .before .before .before .before .before .args) .mode) ((c .before .before .before .before .before .before .before .before .before .before .before .before .before .before .before .args) .text .now) ((c .before .before .before .before .before .before .before .before .before .before .before .before .before .before .before .args) .records .now) ((c .before .before .before .before .before .before .before .before .before .before .before .before .before .before .before .args) .reals .now) ((c .before .before .before .before .before .before .before .before .before .before .before .before .before .before .before .args) .index .now) _ _ _ ((c .before .before .before .before .before .before .before .clear-all) .ensures .0) ((c .before .before .before .before .before .before .before .clear-all) .ensures .1 .0) ((c .before .before .before .before .before .before .before .clear-all) .ensures .1 .1) ((c .if1) .taken)
+returns c =
+    let a = c .before .before .before .before .before .before .before .before .before .before .before .before .before .before .before .args in
+    let at-clear-all = c .before .before .before .before .before .before .before .clear-all in
+    let at-if1 = c .if1 in
+    too-long (a .mode) (a .text .now) (a .records .now) (a .reals .now) (a .index .now) _ _ _ (at-clear-all .ensures .0) (at-clear-all .ensures .1 .0) (at-clear-all .ensures .1 .1) (at-if1 .taken)
 
 settings-for-requires : tie.Need-settings-for-requires Inv-loop μ-loop
 settings-for-requires c κs = search needs
@@ -49,7 +53,13 @@ between-requires c κs = search needs
 
 loop-holds : tie.Need-loop-holds Inv-loop μ-loop
 unfolding lib.Ieee.ofBits
-loop-holds c = (subst (Inv _ _ _ _ _) (sym ((c .between) .ensures)) (first-inv _ _ ((c .before .before .before .before .before .before .before .before .before .before .before .before .before .before .before .before .before .args) .records .now) ((c .before .before .before .before .before .before .before .before .before .before .before .before .before .before .before .before .before .args) .reals .now) ((c .before .before .before .before .before .before .before .before .before .before .before .before .before .before .before .before .before .args) .index .now) _ _ _ ((c .before .before .before .before .before .before .before .before .before .clear-all) .ensures .0) ((c .before .before .before .before .before .before .before .before .before .clear-all) .ensures .1 .0) ((c .before .before .before .before .before .before .before .before .before .clear-all) .ensures .1 .1) ((c .before .before .if1) .left) _ ((c .before .settings-for) .ensures)), refl, refl, refl)
+loop-holds c =
+    let a = c .before .before .before .before .before .before .before .before .before .before .before .before .before .before .before .before .before .args in
+    let at-clear-all = c .before .before .before .before .before .before .before .before .before .clear-all in
+    let at-if1 = c .before .before .if1 in
+    let at-settings-for = c .before .settings-for in
+    let at-between = c .between in
+    (subst (Inv _ _ _ _ _) (sym (at-between .ensures)) (first-inv _ _ (a .records .now) (a .reals .now) (a .index .now) _ _ _ (at-clear-all .ensures .0) (at-clear-all .ensures .1 .0) (at-clear-all .ensures .1 .1) (at-if1 .left) _ (at-settings-for .ensures)), refl, refl, refl)
 
 -- a turn of the loop, once its step is taken: the text, the tables and the state behind the plain statements, the settings, and what
 -- holds of them
@@ -126,31 +136,51 @@ enum-known-t : tie.Need-enum-known-t Inv-loop μ-loop
 enum-known-t c = search needs
 
 loop-less : tie.Need-loop-less Inv-loop μ-loop
-loop-less c = let r = steps-to (c .before .before .before) _ ((c .before .t) .given .1) in on-from (c .before .before .before) _ (gets-on _ _ _ _ _ _ (r .0) _ (r .1))
+loop-less c =
+    let p = c .before .before .before in
+    let at-t = c .before .t in
+    let r = steps-to p _ (at-t .given .1) in on-from p _ (gets-on _ _ _ _ _ _ (r .0) _ (r .1))
 
 loop-again : tie.Need-loop-again Inv-loop μ-loop
-loop-again c = (steps-to (c .before .before .before) _ ((c .before .t) .given .1) .0, same-records (c .before .before .before), same-reals (c .before .before .before), same-index (c .before .before .before))
+loop-again c =
+    let p = c .before .before .before in
+    let at-t = c .before .t in
+    (steps-to p _ (at-t .given .1) .0, same-records p, same-reals p, same-index p)
 
 enum-known-t-2 : tie.Need-enum-known-t-2 Inv-loop μ-loop
 enum-known-t-2 c = search needs
 
 mul-reals : tie.Need-mul-reals Inv-loop μ-loop
-mul-reals c = omega (arith, steps-to (c .before .before .before) _ ((c .before .t2) .given .1) .0, kept-reals (c .before .before .before), (c .before .before .before .before .before .before .before .before .before .before .before .before .before .before .before .before .before .before .before .before .before .before .before .before .before .before .before .before .before .before .before .before .before .before .before) .good .1 .1 .1 .0 .1)
+mul-reals c =
+    let start = c .before .before .before .before .before .before .before .before .before .before .before .before .before .before .before .before .before .before .before .before .before .before .before .before .before .before .before .before .before .before .before .before .before .before .before in
+    let p = c .before .before .before in
+    let at-t2 = c .before .t2 in
+    omega (arith, steps-to p _ (at-t2 .given .1) .0, kept-reals p, start .good .1 .1 .1 .0 .1)
 
 slice-write-reals : tie.Need-slice-write-reals Inv-loop μ-loop
 slice-write-reals c = steps-to (c .before .before .before) _ ((c .before .t2) .given .1) .0
 
 loop-less-2 : tie.Need-loop-less-2 Inv-loop μ-loop
-loop-less-2 c = let r = steps-to (c .before .before .before) _ ((c .before .t2) .given .1) .1 _ refl in on-from (c .before .before .before) _ (gets-on _ _ _ _ _ _ (r .0) _ (r .1))
+loop-less-2 c =
+    let p = c .before .before .before in
+    let at-t2 = c .before .t2 in
+    let r = steps-to p _ (at-t2 .given .1) .1 _ refl in on-from p _ (gets-on _ _ _ _ _ _ (r .0) _ (r .1))
 
 loop-again-2 : tie.Need-loop-again-2 Inv-loop μ-loop
-loop-again-2 c = (steps-to (c .before .before .before) _ ((c .before .t2) .given .1) .1 _ refl .0, same-records (c .before .before .before), simp length-set (same-reals (c .before .before .before)), same-index (c .before .before .before))
+loop-again-2 c =
+    let p = c .before .before .before in
+    let at-t2 = c .before .t2 in
+    (steps-to p _ (at-t2 .given .1) .1 _ refl .0, same-records p, simp length-set (same-reals p), same-index p)
 
 enum-known-t-3 : tie.Need-enum-known-t-3 Inv-loop μ-loop
 enum-known-t-3 c = search needs
 
 mul-reals-2 : tie.Need-mul-reals-2 Inv-loop μ-loop
-mul-reals-2 c = omega (arith, steps-to (c .before .before .before) _ ((c .before .t3) .given .1) .0, kept-reals (c .before .before .before), (c .before .before .before .before .before .before .before .before .before .before .before .before .before .before .before .before .before .before .before .before .before .before .before .before .before .before .before .before .before .before .before .before .before .before .before) .good .1 .1 .1 .0 .1)
+mul-reals-2 c =
+    let start = c .before .before .before .before .before .before .before .before .before .before .before .before .before .before .before .before .before .before .before .before .before .before .before .before .before .before .before .before .before .before .before .before .before .before .before in
+    let p = c .before .before .before in
+    let at-t3 = c .before .t3 in
+    omega (arith, steps-to p _ (at-t3 .given .1) .0, kept-reals p, start .good .1 .1 .1 .0 .1)
 
 slice-write-reals-2 : tie.Need-slice-write-reals-2 Inv-loop μ-loop
 slice-write-reals-2 c = steps-to (c .before .before .before) _ ((c .before .t3) .given .1) .0
@@ -159,10 +189,18 @@ enter-requires : tie.Need-enter-requires Inv-loop μ-loop
 enter-requires c κs = search needs
 
 loop-less-3 : tie.Need-loop-less-3 Inv-loop μ-loop
-loop-less-3 c = let r = steps-to (c .before .before .before .before .before .before .before .before .before .before) _ ((c .before .before .before .before .before .before .before .before .t3) .given .1) .1 _ _ _ _ refl (record { state = (c .before .before .before .before .enter) .ensures .0; stored = (c .before .before .before .before .enter) .ensures .1 .0; held = (c .before .before .before .before .enter) .ensures .1 .1; sized = (c .before .before .before .before .enter) .kept .1 .0; spread = (c .before .before .before .before .enter) .kept .1 .1 .0 }) in on-from (c .before .before .before .before .before .before .before .before .before .before) _ (gets-on _ _ _ _ _ _ (r .0) _ (r .1))
+loop-less-3 c =
+    let p = c .before .before .before .before .before .before .before .before .before .before in
+    let at-t3 = c .before .before .before .before .before .before .before .before .t3 in
+    let at-enter = c .before .before .before .before .enter in
+    let r = steps-to p _ (at-t3 .given .1) .1 _ _ _ _ refl (record { state = at-enter .ensures .0; stored = at-enter .ensures .1 .0; held = at-enter .ensures .1 .1; sized = at-enter .kept .1 .0; spread = at-enter .kept .1 .1 .0 }) in on-from p _ (gets-on _ _ _ _ _ _ (r .0) _ (r .1))
 
 loop-again-3 : tie.Need-loop-again-3 Inv-loop μ-loop
-loop-again-3 c = (steps-to (c .before .before .before .before .before .before .before .before .before .before) _ ((c .before .before .before .before .before .before .before .before .t3) .given .1) .1 _ _ _ _ refl (record { state = (c .before .before .before .before .enter) .ensures .0; stored = (c .before .before .before .before .enter) .ensures .1 .0; held = (c .before .before .before .before .enter) .ensures .1 .1; sized = (c .before .before .before .before .enter) .kept .1 .0; spread = (c .before .before .before .before .enter) .kept .1 .1 .0 }) .0, (c .before .before .before .before .enter) .kept .1 .0 ∙ same-records (c .before .before .before .before .before .before .before .before .before .before), simp length-set (same-reals (c .before .before .before .before .before .before .before .before .before .before)), (c .before .before .before .before .enter) .kept .1 .1 .0 ∙ same-index (c .before .before .before .before .before .before .before .before .before .before))
+loop-again-3 c =
+    let p = c .before .before .before .before .before .before .before .before .before .before in
+    let at-t3 = c .before .before .before .before .before .before .before .before .t3 in
+    let at-enter = c .before .before .before .before .enter in
+    (steps-to p _ (at-t3 .given .1) .1 _ _ _ _ refl (record { state = at-enter .ensures .0; stored = at-enter .ensures .1 .0; held = at-enter .ensures .1 .1; sized = at-enter .kept .1 .0; spread = at-enter .kept .1 .1 .0 }) .0, at-enter .kept .1 .0 ∙ same-records p, simp length-set (same-reals p), at-enter .kept .1 .1 .0 ∙ same-index p)
 
 enum-known-t-4 : tie.Need-enum-known-t-4 Inv-loop μ-loop
 enum-known-t-4 c = search needs
@@ -171,10 +209,18 @@ enter-requires-2 : tie.Need-enter-requires-2 Inv-loop μ-loop
 enter-requires-2 c κs = search needs
 
 loop-less-4 : tie.Need-loop-less-4 Inv-loop μ-loop
-loop-less-4 c = let r = steps-to (c .before .before .before .before .before .before .before .before .before .before) _ ((c .before .before .before .before .before .before .before .before .t4) .given .1) _ _ _ (record { state = (c .before .before .before .before .enter2) .ensures .0; stored = (c .before .before .before .before .enter2) .ensures .1 .0; held = (c .before .before .before .before .enter2) .ensures .1 .1; sized = (c .before .before .before .before .enter2) .kept .1 .0; spread = (c .before .before .before .before .enter2) .kept .1 .1 .0 }) in on-from (c .before .before .before .before .before .before .before .before .before .before) _ (gets-on _ _ _ _ _ _ (r .0) _ (r .1))
+loop-less-4 c =
+    let p = c .before .before .before .before .before .before .before .before .before .before in
+    let at-t4 = c .before .before .before .before .before .before .before .before .t4 in
+    let at-enter2 = c .before .before .before .before .enter2 in
+    let r = steps-to p _ (at-t4 .given .1) _ _ _ (record { state = at-enter2 .ensures .0; stored = at-enter2 .ensures .1 .0; held = at-enter2 .ensures .1 .1; sized = at-enter2 .kept .1 .0; spread = at-enter2 .kept .1 .1 .0 }) in on-from p _ (gets-on _ _ _ _ _ _ (r .0) _ (r .1))
 
 loop-again-4 : tie.Need-loop-again-4 Inv-loop μ-loop
-loop-again-4 c = (steps-to (c .before .before .before .before .before .before .before .before .before .before) _ ((c .before .before .before .before .before .before .before .before .t4) .given .1) _ _ _ (record { state = (c .before .before .before .before .enter2) .ensures .0; stored = (c .before .before .before .before .enter2) .ensures .1 .0; held = (c .before .before .before .before .enter2) .ensures .1 .1; sized = (c .before .before .before .before .enter2) .kept .1 .0; spread = (c .before .before .before .before .enter2) .kept .1 .1 .0 }) .0, (c .before .before .before .before .enter2) .kept .1 .0 ∙ same-records (c .before .before .before .before .before .before .before .before .before .before), same-reals (c .before .before .before .before .before .before .before .before .before .before), (c .before .before .before .before .enter2) .kept .1 .1 .0 ∙ same-index (c .before .before .before .before .before .before .before .before .before .before))
+loop-again-4 c =
+    let p = c .before .before .before .before .before .before .before .before .before .before in
+    let at-t4 = c .before .before .before .before .before .before .before .before .t4 in
+    let at-enter2 = c .before .before .before .before .enter2 in
+    (steps-to p _ (at-t4 .given .1) _ _ _ (record { state = at-enter2 .ensures .0; stored = at-enter2 .ensures .1 .0; held = at-enter2 .ensures .1 .1; sized = at-enter2 .kept .1 .0; spread = at-enter2 .kept .1 .1 .0 }) .0, at-enter2 .kept .1 .0 ∙ same-records p, same-reals p, at-enter2 .kept .1 .1 .0 ∙ same-index p)
 
 enum-known-reason : tie.Need-enum-known-reason Inv-loop μ-loop
 enum-known-reason c = search needs
@@ -183,17 +229,30 @@ clear-all-requires-2 : tie.Need-clear-all-requires-2 Inv-loop μ-loop
 clear-all-requires-2 c κs = search needs
 
 same-length-4 : tie.Need-same-length-4 Inv-loop μ-loop
-same-length-4 c = (c .before .before .before .before .before .before .clear-all2) .kept .0 ∙ kept-records (c .before .before .before .before .before .before .before .before .before .before .before .before .before)
+same-length-4 c =
+    let p = c .before .before .before .before .before .before .before .before .before .before .before .before .before in
+    let at-clear-all2 = c .before .before .before .before .before .before .clear-all2 in
+    at-clear-all2 .kept .0 ∙ kept-records p
 
 same-length-5 : tie.Need-same-length-5 Inv-loop μ-loop
-same-length-5 c = (c .before .before .before .before .before .before .clear-all2) .kept .1 .0 ∙ kept-reals (c .before .before .before .before .before .before .before .before .before .before .before .before .before)
+same-length-5 c =
+    let p = c .before .before .before .before .before .before .before .before .before .before .before .before .before in
+    let at-clear-all2 = c .before .before .before .before .before .before .clear-all2 in
+    at-clear-all2 .kept .1 .0 ∙ kept-reals p
 
 same-length-6 : tie.Need-same-length-6 Inv-loop μ-loop
-same-length-6 c = (c .before .before .before .before .before .before .clear-all2) .kept .1 .1 .0 ∙ kept-index (c .before .before .before .before .before .before .before .before .before .before .before .before .before)
+same-length-6 c =
+    let p = c .before .before .before .before .before .before .before .before .before .before .before .before .before in
+    let at-clear-all2 = c .before .before .before .before .before .before .clear-all2 in
+    at-clear-all2 .kept .1 .1 .0 ∙ kept-index p
 
 returns-2 : tie.Need-returns-2 Inv-loop μ-loop
 unfolding lib.Ieee.ofBits
-returns-2 c = let p = (c .before .before .before .before .before .before .before .before .before .before .before .before .before) in refuses-with (mode p) (text p) (lent-records p) (lent-reals p) (lent-index p) _ _ _ ((c .before .before .before .before .before .before .clear-all2) .ensures .0 ∙ ap (λ (n : ℕ). replicate n 0) (kept-records p)) ((c .before .before .before .before .before .before .clear-all2) .ensures .1 .0 ∙ ap (λ (n : ℕ). replicate n zeroReal) (kept-reals p)) ((c .before .before .before .before .before .before .clear-all2) .ensures .1 .1 ∙ ap (λ (n : ℕ). replicate n 0) (kept-index p)) _ _ (reads-as (mode p) (text p) (lent-records p) (lent-reals p) (lent-index p) _ _ _ _ _ (inv p) (in-mode p) (kept-records p) (kept-reals p) (kept-index p) ∙ steps-to p _ ((c .before .before .before .before .before .before .before .before .before .before .before .reason) .given .1))
+returns-2 c =
+    let p = c .before .before .before .before .before .before .before .before .before .before .before .before .before in
+    let at-reason = c .before .before .before .before .before .before .before .before .before .before .before .reason in
+    let at-clear-all2 = c .before .before .before .before .before .before .clear-all2 in
+    refuses-with (mode p) (text p) (lent-records p) (lent-reals p) (lent-index p) _ _ _ (at-clear-all2 .ensures .0 ∙ ap (λ (n : ℕ). replicate n 0) (kept-records p)) (at-clear-all2 .ensures .1 .0 ∙ ap (λ (n : ℕ). replicate n zeroReal) (kept-reals p)) (at-clear-all2 .ensures .1 .1 ∙ ap (λ (n : ℕ). replicate n 0) (kept-index p)) _ _ (reads-as (mode p) (text p) (lent-records p) (lent-reals p) (lent-index p) _ _ _ _ _ (inv p) (in-mode p) (kept-records p) (kept-reals p) (kept-index p) ∙ steps-to p _ (at-reason .given .1))
 
 enum-told : tie.Need-enum-told Inv-loop μ-loop
 enum-told c = search needs
@@ -208,7 +267,10 @@ same-length-9 : tie.Need-same-length-9 Inv-loop μ-loop
 same-length-9 c = kept-index (c .before .before)
 
 returns-3 : tie.Need-returns-3 Inv-loop μ-loop
-returns-3 c = let p = (c .before .before) in ends-accepted (mode p) (text p) (lent-records p) (lent-reals p) (lent-index p) _ _ _ _ _ (inv p) (in-mode p) (kept-records p) (kept-reals p) (kept-index p) _ _ _ (steps-to p _ ((c .enum-told) .given .1))
+returns-3 c =
+    let p = c .before .before in
+    let at-enum-told = c .enum-told in
+    ends-accepted (mode p) (text p) (lent-records p) (lent-reals p) (lent-index p) _ _ _ _ _ (inv p) (in-mode p) (kept-records p) (kept-reals p) (kept-index p) _ _ _ (steps-to p _ (at-enum-told .given .1))
 
 pub run-spec : {M : Type 1} → statement M
 run-spec =

@@ -10,10 +10,10 @@ use Rattle.index.proofs.hash.Statement.{statement}
 use Rattle.index.proofs.hash.Tie as tie
 
 abbrev Inv-loop : tie.InvT-loop
-Inv-loop word fours h₀ i₀ h i = Hashed word h i
+Inv-loop word h₀ i₀ h i = Hashed word h i
 
 abbrev μ-loop : tie.MeasureT-loop
-μ-loop word fours h₀ i₀ h i = length word - i
+μ-loop word h₀ i₀ h i = length word - i
 
 by-fours-requires : tie.Need-by-fours-requires Inv-loop μ-loop
 by-fours-requires c κs = search needs

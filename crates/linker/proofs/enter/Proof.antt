@@ -21,7 +21,11 @@ between-requires c κs = search needs
 
 -- src/lib.rt:109:9
 returns : tie.Need-returns
-returns c = (behind-none ((c .before .before .before .before .before .args) .text .now) ((c .before .before .before .before .before .args) .records .now) ((c .before .before .before .before .before .args) .index .now) ((c .before .before .before .before .before .args) .t) ((c .before .if1) .taken) ((c .between) .ensures), in-none ((c .before .before .before .before .before .args) .text .now) ((c .before .before .before .before .before .args) .records .now) ((c .before .before .before .before .before .args) .index .now) ((c .before .before .before .before .before .args) .t .count) ((c .before .before .before .before .before .args) .t .draft) (clipped (lineFrom ((c .before .before .before .before .before .args) .text .now) ((c .before .before .before .before .before .args) .records .now) ((c .before .before .before .before .before .args) .t .count) ((c .before .before .before .before .before .args) .t .draft .name))) ((c .before .if1) .taken) .1)
+returns c =
+    let a = c .before .before .before .before .before .args in
+    let at-if1 = c .before .if1 in
+    let at-between = c .between in
+    (behind-none (a .text .now) (a .records .now) (a .index .now) (a .t) (at-if1 .taken) (at-between .ensures), in-none (a .text .now) (a .records .now) (a .index .now) (a .t .count) (a .t .draft) (clipped (lineFrom (a .text .now) (a .records .now) (a .t .count) (a .t .draft .name))) (at-if1 .taken) .1)
 
 -- src/lib.rt:112:16
 add-last : tie.Need-add-last
@@ -61,7 +65,16 @@ same-length-2 c = search needs
 
 -- src/lib.rt:102:1
 returns-2 : tie.Need-returns-2
-returns-2 c = (behind-one ((c .before .before .before .before .before .before .before .before .before .before .before .before .before .before .before .before .before .before .args) .text .now) ((c .before .before .before .before .before .before .before .before .before .before .before .before .before .before .before .before .before .before .args) .records .now) ((c .before .before .before .before .before .before .before .before .before .before .before .before .before .before .before .before .before .before .args) .index .now) ((c .before .before .before .before .before .before .before .before .before .before .before .before .before .before .before .before .before .before .args) .t) ((c .before .before .before .before .before .before .before .before .before .before .before .before .before .before .if1) .left) ((c .before .before .before .before .before .before .enter-row) .ensures .0) ((c .before .counted) .ensures) ((c .between2) .ensures), ((c .before .before .before .before .before .before .enter-row) .ensures .1 .0 ∙ ap (enteredAt ((c .before .before .before .before .before .before .before .before .before .before .before .before .before .before .before .before .before .before .args) .text .now) ((c .before .before .before .before .before .before .before .before .before .before .before .before .before .before .before .before .before .before .args) .records .now) ((c .before .before .before .before .before .before .before .before .before .before .before .before .before .before .before .before .before .before .args) .index .now) ((c .before .before .before .before .before .before .before .before .before .before .before .before .before .before .before .before .before .before .args) .t .count) ((c .before .before .before .before .before .before .before .before .before .before .before .before .before .before .before .before .before .before .args) .t .draft)) ((c .before .before .before .before .before .before .before .before .before .narrow) .ensures ∙ ap clipped ((c .before .before .before .before .before .before .before .before .before .before .line-of) .ensures ∙ ap (lineFrom ((c .before .before .before .before .before .before .before .before .before .before .before .before .before .before .before .before .before .before .args) .text .now) ((c .before .before .before .before .before .before .before .before .before .before .before .before .before .before .before .before .before .before .args) .records .now) ((c .before .before .before .before .before .before .before .before .before .before .before .before .before .before .before .before .before .before .args) .t .count)) ((c .before .before .before .before .before .before .before .before .before .before .before .wide) .ensures))), (c .before .before .before .before .before .before .enter-row) .ensures .1 .1))
+returns-2 c =
+    let a = c .before .before .before .before .before .before .before .before .before .before .before .before .before .before .before .before .before .before .args in
+    let at-if1 = c .before .before .before .before .before .before .before .before .before .before .before .before .before .before .if1 in
+    let at-wide = c .before .before .before .before .before .before .before .before .before .before .before .wide in
+    let at-line-of = c .before .before .before .before .before .before .before .before .before .before .line-of in
+    let at-narrow = c .before .before .before .before .before .before .before .before .before .narrow in
+    let at-enter-row = c .before .before .before .before .before .before .enter-row in
+    let at-counted = c .before .counted in
+    let at-between2 = c .between2 in
+    (behind-one (a .text .now) (a .records .now) (a .index .now) (a .t) (at-if1 .left) (at-enter-row .ensures .0) (at-counted .ensures) (at-between2 .ensures), (at-enter-row .ensures .1 .0 ∙ ap (enteredAt (a .text .now) (a .records .now) (a .index .now) (a .t .count) (a .t .draft)) (at-narrow .ensures ∙ ap clipped (at-line-of .ensures ∙ ap (lineFrom (a .text .now) (a .records .now) (a .t .count)) (at-wide .ensures))), at-enter-row .ensures .1 .1))
 
 pub enter-spec : {M : Type 1} → statement M
 enter-spec =

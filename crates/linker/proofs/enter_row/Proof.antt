@@ -12,7 +12,10 @@ use Rattle.statement.proofs.narrow.Reads as narrow-reads
 
 -- src/lib.rt:91:9
 returns : tie.Need-returns
-returns c = in-none ((c .before .before .before .before .args) .text .now) ((c .before .before .before .before .args) .records .now) ((c .before .before .before .before .args) .index .now) ((c .before .before .before .before .args) .count) ((c .before .before .before .before .args) .d) ((c .before .before .before .before .args) .line) ((c .if1) .taken)
+returns c =
+    let a = c .before .before .before .before .args in
+    let at-if1 = c .if1 in
+    in-none (a .text .now) (a .records .now) (a .index .now) (a .count) (a .d) (a .line) (at-if1 .taken)
 
 -- src/lib.rt:93:9
 earlier-requires : tie.Need-earlier-requires
@@ -48,7 +51,15 @@ same-length-2 c = search needs
 
 -- src/lib.rt:78:1
 returns-2 : tie.Need-returns-2
-returns-2 c = in-one ((c .before .before .before .before .before .before .before .before .before .before .before .before .before .before .before .before .before .before .before .before .args) .text .now) ((c .before .before .before .before .before .before .before .before .before .before .before .before .before .before .before .before .before .before .before .before .args) .records .now) ((c .before .before .before .before .before .before .before .before .before .before .before .before .before .before .before .before .before .before .before .before .args) .index .now) ((c .before .before .before .before .before .before .before .before .before .before .before .before .before .before .before .before .before .before .before .before .args) .count) ((c .before .before .before .before .before .before .before .before .before .before .before .before .before .before .before .before .before .before .before .before .args) .d) ((c .before .before .before .before .before .before .before .before .before .before .before .before .before .before .before .before .before .before .before .before .args) .line) ((c .before .before .before .before .before .before .before .before .before .before .before .before .before .before .before .before .if1) .left) ((c .before .before .before .before .before .before .before .before .before .before .before .before .before .earlier) .ensures) ((c .before .before .before .before .before .before .before .before .before .before .before .before .narrow) .ensures) ((c .before .before .before .before .before .before .before .before .before .before .tell-next) .ensures) ((c .before .before .before .before .before .before .put-row) .ensures) ((c .before .before .put) .ensures)
+returns-2 c =
+    let a = c .before .before .before .before .before .before .before .before .before .before .before .before .before .before .before .before .before .before .before .before .args in
+    let at-if1 = c .before .before .before .before .before .before .before .before .before .before .before .before .before .before .before .before .if1 in
+    let at-earlier = c .before .before .before .before .before .before .before .before .before .before .before .before .before .earlier in
+    let at-narrow = c .before .before .before .before .before .before .before .before .before .before .before .before .narrow in
+    let at-tell-next = c .before .before .before .before .before .before .before .before .before .before .tell-next in
+    let at-put-row = c .before .before .before .before .before .before .put-row in
+    let at-put = c .before .before .put in
+    in-one (a .text .now) (a .records .now) (a .index .now) (a .count) (a .d) (a .line) (at-if1 .left) (at-earlier .ensures) (at-narrow .ensures) (at-tell-next .ensures) (at-put-row .ensures) (at-put .ensures)
 
 pub enter-row-spec : {M : Type 1} → statement M
 enter-row-spec =

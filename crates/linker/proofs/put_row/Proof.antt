@@ -111,7 +111,9 @@ same-length : tie.Need-same-length
 same-length c = simp length-set
 
 returns : tie.Need-returns
-returns c = row-stored ((c .args) .records .now) ((c .args) .n * width) ((c .args) .d .kind) ((c .args) .d .modifier) ((c .args) .d .target) ((c .args) .d .name) ((c .args) .d .size) ((c .args) .d .string) ((c .args) .d .strings) ((c .args) .d .real) ((c .args) .d .reals) 0 ((c .args) .line)
+returns c =
+    let a = c .args in
+    row-stored (a .records .now) (a .n * width) (a .d .kind) (a .d .modifier) (a .d .target) (a .d .name) (a .d .size) (a .d .string) (a .d .strings) (a .d .real) (a .d .reals) 0 (a .line)
 
 pub put-row-spec : {M : Type 1} → statement M
 put-row-spec =

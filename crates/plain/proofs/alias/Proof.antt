@@ -42,16 +42,36 @@ source-of-requires : tie.Need-source-of-requires
 source-of-requires c κs = search needs
 
 add-t13 : tie.Need-add-t13
-add-t13 c = omega (arith, (c .before .before .before .before .before .before .before .before .before .before .before .before .before .before .before .pre), ((c .before .before .before .before .before .before .before .before .before .before .before .name) .ensures (not-false _ ((c .before .before .before .before .before .before .before .before .before .if1) .left))) .word .passes .lines-on, line-most ((c .before .before .before .before .before .before .before .before .before .before .before .before .before .before .before .args) .text .now) ((c .before .before .before .before .before .before .before .before .before .before .before .name) .result .next), (c .before .before .before .before .before .before .before .before .before .before .before .before .before .before .before) .good .0)
+add-t13 c =
+    let pre = c .before .before .before .before .before .before .before .before .before .before .before .before .before .before .before .pre in
+    let a = c .before .before .before .before .before .before .before .before .before .before .before .before .before .before .before .args in
+    let start = c .before .before .before .before .before .before .before .before .before .before .before .before .before .before .before in
+    let at-name = c .before .before .before .before .before .before .before .before .before .before .before .name in
+    let at-if1 = c .before .before .before .before .before .before .before .before .before .if1 in
+    omega (arith, pre, (at-name .ensures (not-false _ (at-if1 .left))) .word .passes .lines-on, line-most (a .text .now) (at-name .result .next), start .good .0)
 
 add-t14 : tie.Need-add-t14
-add-t14 c = omega (arith, (c .before .before .before .before .before .before .before .before .before .before .before .before .before .before .before .before .pre), ((c .before .before .before .before .before .before .before .before .before .before .before .before .name) .ensures (not-false _ ((c .before .before .before .before .before .before .before .before .before .before .if1) .left))) .word .passes .lines-on, ((c .before .before .before .before .before .before .before .before .before .word) .ensures (not-false _ ((c .before .before .before .before .before .before .before .if2) .left))) .passes .lines-on, line-most ((c .before .before .before .before .before .before .before .before .before .before .before .before .before .before .before .before .args) .text .now) ((c .before .before .before .before .before .before .before .before .before .word) .result .next), (c .before .before .before .before .before .before .before .before .before .before .before .before .before .before .before .before) .good .0)
+add-t14 c =
+    let pre = c .before .before .before .before .before .before .before .before .before .before .before .before .before .before .before .before .pre in
+    let a = c .before .before .before .before .before .before .before .before .before .before .before .before .before .before .before .before .args in
+    let start = c .before .before .before .before .before .before .before .before .before .before .before .before .before .before .before .before in
+    let at-name = c .before .before .before .before .before .before .before .before .before .before .before .before .name in
+    let at-if1 = c .before .before .before .before .before .before .before .before .before .before .if1 in
+    let at-word = c .before .before .before .before .before .before .before .before .before .word in
+    let at-if2 = c .before .before .before .before .before .before .before .if2 in
+    omega (arith, pre, (at-name .ensures (not-false _ (at-if1 .left))) .word .passes .lines-on, (at-word .ensures (not-false _ (at-if2 .left))) .passes .lines-on, line-most (a .text .now) (at-word .result .next), start .good .0)
 
 sum-requires : tie.Need-sum-requires
 sum-requires c κs = search needs
 
 add-t16 : tie.Need-add-t16
-add-t16 c = omega (arith, (c .before .before .before .before .before .before .before .before .before .before .before .before .before .before .before .before .before .before .before .pre), ((c .before .before .before .before .before .before .before .before .before .before .before .before .before .before .before .name) .ensures (not-false _ ((c .before .before .before .before .before .before .before .before .before .before .before .before .before .if1) .left))) .word .lines-before, line-most ((c .before .before .before .before .before .before .before .before .before .before .before .before .before .before .before .before .before .before .before .args) .text .now) ((c .before .before .before .before .before .before .before .before .before .before .before .before .before .before .before .name) .result .place), (c .before .before .before .before .before .before .before .before .before .before .before .before .before .before .before .before .before .before .before) .good .0)
+add-t16 c =
+    let pre = c .before .before .before .before .before .before .before .before .before .before .before .before .before .before .before .before .before .before .before .pre in
+    let a = c .before .before .before .before .before .before .before .before .before .before .before .before .before .before .before .before .before .before .before .args in
+    let start = c .before .before .before .before .before .before .before .before .before .before .before .before .before .before .before .before .before .before .before in
+    let at-name = c .before .before .before .before .before .before .before .before .before .before .before .before .before .before .before .name in
+    let at-if1 = c .before .before .before .before .before .before .before .before .before .before .before .before .before .if1 in
+    omega (arith, pre, (at-name .ensures (not-false _ (at-if1 .left))) .word .lines-before, line-most (a .text .now) (at-name .result .place), start .good .0)
 
 narrow-requires : tie.Need-narrow-requires
 narrow-requires c κs = search needs
@@ -63,7 +83,21 @@ narrow-requires-3 : tie.Need-narrow-requires-3
 narrow-requires-3 c κs = search needs
 
 returns-4 : tie.Need-returns-4
-returns-4 c = λ h room. begins-alias ((c .before .before .before .before .before .before .before .before .before .before .before .before .before .before .before .before .before .before .before .before .before .before .args) .text .now) ((c .before .before .before .before .before .before .before .before .before .before .before .before .before .before .before .before .before .before .before .before .before .before .args) .records .now) ((c .before .before .before .before .before .before .before .before .before .before .before .before .before .before .before .before .before .before .before .before .before .before .args) .index .now) room ((c .before .before .before .before .before .before .before .before .before .before .before .before .before .before .before .before .before .before .before .before .before .before .args) .b) ((c .before .before .before .before .before .before .before .before .before .before .before .before .before .before .before .before .before .before .before .before .before .before .args) .link) ((c .before .before .before .before .before .before .before .before .before .before .before .before .before .before .before .before .before .before .name) .result) ((c .before .before .before .before .before .before .before .before .before .before .before .before .before .before .before .word) .result) ((c .before .before .before .before .before .before .before .before .before .before .before .before .before .before .before .before .before .before .name) .ensures (not-false _ ((c .before .before .before .before .before .before .before .before .before .before .before .before .before .before .before .before .if1) .left))) ((c .before .before .before .before .before .before .before .before .before .before .before .before .before .before .before .word) .ensures (not-false _ ((c .before .before .before .before .before .before .before .before .before .before .before .before .before .if2) .left))) _ ((c .before .before .before .before .before .before .before .before .before .before .before .before .part) .ensures) ((c .before .before .before .before .before .before .before .before .before .before .before .search) .result) ((c .before .before .before .before .before .before .before .before .before .before .before .search) .ensures) ((c .before .before .before .before .before .before .before .before .before .before .if3) .left) _ ((c .before .before .before .before .before .before .before .before .before .source-of) .ensures) _ _ _ _ ((c .before .before .before .before .before .sum) .ensures) ((c .before .before .narrow) .ensures) ((c .before .narrow2) .ensures) ((c .narrow3) .ensures)
+returns-4 c =
+    let a = c .before .before .before .before .before .before .before .before .before .before .before .before .before .before .before .before .before .before .before .before .before .before .args in
+    let at-name = c .before .before .before .before .before .before .before .before .before .before .before .before .before .before .before .before .before .before .name in
+    let at-if1 = c .before .before .before .before .before .before .before .before .before .before .before .before .before .before .before .before .if1 in
+    let at-word = c .before .before .before .before .before .before .before .before .before .before .before .before .before .before .before .word in
+    let at-if2 = c .before .before .before .before .before .before .before .before .before .before .before .before .before .if2 in
+    let at-part = c .before .before .before .before .before .before .before .before .before .before .before .before .part in
+    let at-search = c .before .before .before .before .before .before .before .before .before .before .before .search in
+    let at-if3 = c .before .before .before .before .before .before .before .before .before .before .if3 in
+    let at-source-of = c .before .before .before .before .before .before .before .before .before .source-of in
+    let at-sum = c .before .before .before .before .before .sum in
+    let at-narrow = c .before .before .narrow in
+    let at-narrow2 = c .before .narrow2 in
+    let at-narrow3 = c .narrow3 in
+    λ h room. begins-alias (a .text .now) (a .records .now) (a .index .now) room (a .b) (a .link) (at-name .result) (at-word .result) (at-name .ensures (not-false _ (at-if1 .left))) (at-word .ensures (not-false _ (at-if2 .left))) _ (at-part .ensures) (at-search .result) (at-search .ensures) (at-if3 .left) _ (at-source-of .ensures) _ _ _ _ (at-sum .ensures) (at-narrow .ensures) (at-narrow2 .ensures) (at-narrow3 .ensures)
 
 pub alias-spec : {M : Type 1} → statement M
 alias-spec =

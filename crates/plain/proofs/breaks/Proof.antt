@@ -24,10 +24,21 @@ breaches-requires : tie.Need-breaches-requires
 breaches-requires c κs = search needs
 
 returns : tie.Need-returns
-returns c = (c .breaches) .ensures ∙ (λ i. breachAt houseRules ((c .before .before .before .before .before .before .before .args) .d .kind) ((c .before .before .before .before .before .less) .ensures i) ((c .before .before .before .before .before .before .before .args) .x) ((c .before .before .back) .ensures i) ((c .before .back2) .ensures i))
+returns c =
+    let a = c .before .before .before .before .before .before .before .args in
+    let at-less = c .before .before .before .before .before .less in
+    let at-back = c .before .before .back in
+    let at-back2 = c .before .back2 in
+    let at-breaches = c .breaches in
+    at-breaches .ensures ∙ (λ i. breachAt houseRules (a .d .kind) (at-less .ensures i) (a .x) (at-back .ensures i) (at-back2 .ensures i))
 
 returns-2 : tie.Need-returns-2
-returns-2 c = breaks-none ((c .before .before .before .before .args) .d .kind) _ ((c .before .before .before .before .args) .x) (back ((c .before .before .before .before .args) .reals .now) ((c .before .before .before .before .args) .used) 1) (back ((c .before .before .before .before .args) .reals .now) ((c .before .before .before .before .args) .used) 2) ((c .before .is-ruled) .ensures) ((c .if1) .left) ∙ ap (λ (n : ℕ). breachAt houseRules ((c .before .before .before .before .args) .d .kind) n ((c .before .before .before .before .args) .x) (back ((c .before .before .before .before .args) .reals .now) ((c .before .before .before .before .args) .used) 1) (back ((c .before .before .before .before .args) .reals .now) ((c .before .before .before .before .args) .used) 2)) ((c .before .before .less) .ensures)
+returns-2 c =
+    let a = c .before .before .before .before .args in
+    let at-less = c .before .before .less in
+    let at-is-ruled = c .before .is-ruled in
+    let at-if1 = c .if1 in
+    breaks-none (a .d .kind) _ (a .x) (back (a .reals .now) (a .used) 1) (back (a .reals .now) (a .used) 2) (at-is-ruled .ensures) (at-if1 .left) ∙ ap (λ (n : ℕ). breachAt houseRules (a .d .kind) n (a .x) (back (a .reals .now) (a .used) 1) (back (a .reals .now) (a .used) 2)) (at-less .ensures)
 
 pub breaks-spec : {M : Type 1} → statement M
 breaks-spec =

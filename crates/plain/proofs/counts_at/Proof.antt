@@ -48,13 +48,41 @@ returns-5 : tie.Need-returns-5
 returns-5 c = not-good ((c .no-counts5) .ensures)
 
 add-t7 : tie.Need-add-t7
-add-t7 c = omega (arith, lines-fit ((c .before .before .before .before .before .before .before .before .before .before .before .before .before .before .before .before .args) .text .now) ((c .before .before .before .before .before .before .before .before .before .before .before .before .before .before .before .before .args) .at) ((c .before .before .before .before .before .before .before .before .before .before .before .before .before .before .count) .result) ((c .before .before .before .before .before .before .before .before .before .count2) .result) ((c .before .before .before .before .count3) .result) ((c .before .before .before .before .before .before .before .before .before .before .before .before .before .before .count) .ensures (not-false _ ((c .before .before .before .before .before .before .before .before .before .before .before .before .if1) .left))) ((c .before .before .before .before .before .before .before .before .before .count2) .ensures (not-false _ ((c .before .before .before .before .before .before .before .if3) .left))) ((c .before .before .before .before .count3) .ensures (not-false _ ((c .before .before .if5) .left))), (c .before .before .before .before .before .before .before .before .before .before .before .before .before .before .before .before) .good .0)
+add-t7 c =
+    let a = c .before .before .before .before .before .before .before .before .before .before .before .before .before .before .before .before .args in
+    let start = c .before .before .before .before .before .before .before .before .before .before .before .before .before .before .before .before in
+    let at-count = c .before .before .before .before .before .before .before .before .before .before .before .before .before .before .count in
+    let at-if1 = c .before .before .before .before .before .before .before .before .before .before .before .before .if1 in
+    let at-count2 = c .before .before .before .before .before .before .before .before .before .count2 in
+    let at-if3 = c .before .before .before .before .before .before .before .if3 in
+    let at-count3 = c .before .before .before .before .count3 in
+    let at-if5 = c .before .before .if5 in
+    omega (arith, lines-fit (a .text .now) (a .at) (at-count .result) (at-count2 .result) (at-count3 .result) (at-count .ensures (not-false _ (at-if1 .left))) (at-count2 .ensures (not-false _ (at-if3 .left))) (at-count3 .ensures (not-false _ (at-if5 .left))), start .good .0)
 
 add-t8 : tie.Need-add-t8
-add-t8 c = omega (arith, lines-fit ((c .before .before .before .before .before .before .before .before .before .before .before .before .before .before .before .before .before .args) .text .now) ((c .before .before .before .before .before .before .before .before .before .before .before .before .before .before .before .before .before .args) .at) ((c .before .before .before .before .before .before .before .before .before .before .before .before .before .before .before .count) .result) ((c .before .before .before .before .before .before .before .before .before .before .count2) .result) ((c .before .before .before .before .before .count3) .result) ((c .before .before .before .before .before .before .before .before .before .before .before .before .before .before .before .count) .ensures (not-false _ ((c .before .before .before .before .before .before .before .before .before .before .before .before .before .if1) .left))) ((c .before .before .before .before .before .before .before .before .before .before .count2) .ensures (not-false _ ((c .before .before .before .before .before .before .before .before .if3) .left))) ((c .before .before .before .before .before .count3) .ensures (not-false _ ((c .before .before .before .if5) .left))), (c .before .before .before .before .before .before .before .before .before .before .before .before .before .before .before .before .before) .good .0)
+add-t8 c =
+    let a = c .before .before .before .before .before .before .before .before .before .before .before .before .before .before .before .before .before .args in
+    let start = c .before .before .before .before .before .before .before .before .before .before .before .before .before .before .before .before .before in
+    let at-count = c .before .before .before .before .before .before .before .before .before .before .before .before .before .before .before .count in
+    let at-if1 = c .before .before .before .before .before .before .before .before .before .before .before .before .before .if1 in
+    let at-count2 = c .before .before .before .before .before .before .before .before .before .before .count2 in
+    let at-if3 = c .before .before .before .before .before .before .before .before .if3 in
+    let at-count3 = c .before .before .before .before .before .count3 in
+    let at-if5 = c .before .before .before .if5 in
+    omega (arith, lines-fit (a .text .now) (a .at) (at-count .result) (at-count2 .result) (at-count3 .result) (at-count .ensures (not-false _ (at-if1 .left))) (at-count2 .ensures (not-false _ (at-if3 .left))) (at-count3 .ensures (not-false _ (at-if5 .left))), start .good .0)
 
 returns-6 : tie.Need-returns-6
-returns-6 c = λ h. counting ((c .before .before .before .before .before .before .before .before .before .before .before .before .before .before .before .before .before .args) .text .now) ((c .before .before .before .before .before .before .before .before .before .before .before .before .before .before .before .before .before .args) .at) ((c .before .before .before .before .before .before .before .before .before .before .before .before .before .before .before .count) .result) ((c .before .before .before .before .before .before .before .before .before .before .count2) .result) ((c .before .before .before .before .before .count3) .result) ((c .before .before .before .before .before .before .before .before .before .before .before .before .before .before .before .count) .ensures (not-false _ ((c .before .before .before .before .before .before .before .before .before .before .before .before .before .if1) .left))) ((c .before .before .before .before .before .before .before .before .before .before .count2) .ensures (not-false _ ((c .before .before .before .before .before .before .before .before .if3) .left))) ((c .before .before .before .before .before .count3) .ensures (not-false _ ((c .before .before .before .if5) .left))) ((c .before .before .before .before .before .before .before .before .before .before .before .if2) .left) ((c .before .before .before .before .before .before .if4) .left)
+returns-6 c =
+    let a = c .before .before .before .before .before .before .before .before .before .before .before .before .before .before .before .before .before .args in
+    let at-count = c .before .before .before .before .before .before .before .before .before .before .before .before .before .before .before .count in
+    let at-if1 = c .before .before .before .before .before .before .before .before .before .before .before .before .before .if1 in
+    let at-if2 = c .before .before .before .before .before .before .before .before .before .before .before .if2 in
+    let at-count2 = c .before .before .before .before .before .before .before .before .before .before .count2 in
+    let at-if3 = c .before .before .before .before .before .before .before .before .if3 in
+    let at-if4 = c .before .before .before .before .before .before .if4 in
+    let at-count3 = c .before .before .before .before .before .count3 in
+    let at-if5 = c .before .before .before .if5 in
+    λ h. counting (a .text .now) (a .at) (at-count .result) (at-count2 .result) (at-count3 .result) (at-count .ensures (not-false _ (at-if1 .left))) (at-count2 .ensures (not-false _ (at-if3 .left))) (at-count3 .ensures (not-false _ (at-if5 .left))) (at-if2 .left) (at-if4 .left)
 
 pub counts-at-spec : {M : Type 1} → statement M
 counts-at-spec =

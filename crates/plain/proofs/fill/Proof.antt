@@ -19,7 +19,10 @@ abbrev μ-loop : tie.MeasureT-loop
 μ-loop text reals₀ settings used d f₀ reals f = f .left
 
 loop-holds : tie.Need-loop-holds Inv-loop μ-loop
-loop-holds c = (fills-none ((c .before .before .before .args) .text .now) ((c .before .before .before .args) .reals .now) ((c .before .before .before .args) .settings) ((c .before .before .before .args) .h .draft) _, refl, (c .before .before .before .pre))
+loop-holds c =
+    let pre = c .before .before .before .pre in
+    let a = c .before .before .before .args in
+    (fills-none (a .text .now) (a .reals .now) (a .settings) (a .h .draft) _, refl, pre)
 
 sub-left : tie.Need-sub-left Inv-loop μ-loop
 sub-left c = search needs
@@ -28,22 +31,47 @@ store-requires : tie.Need-store-requires Inv-loop μ-loop
 store-requires c κs = search needs
 
 same-length : tie.Need-same-length Inv-loop μ-loop
-same-length c = (c .before .before .before .before .store) .kept .1 .0 ∙ (c .before .before .before .before .before .before .before .before .before .loop) .inv .1
+same-length c =
+    let at-loop = c .before .before .before .before .before .before .before .before .before .loop in
+    let at-store = c .before .before .before .before .store in
+    at-store .kept .1 .0 ∙ at-loop .inv .1
 
 returns : tie.Need-returns Inv-loop μ-loop
-returns c = subst (Fills ((c .before .before .before .before .before .before .before .before .before .before .before .before .before .args) .text .now) ((c .before .before .before .before .before .before .before .before .before .before .before .before .before .args) .reals .now) ((c .before .before .before .before .before .before .before .before .before .before .before .before .before .args) .settings) ((c .before .before .before .before .before .before .before .before .before .before .before .before .before .args) .h .draft) (unfilled ((c .before .before .before .before .before .before .before .before .before .before .before .before .before .args) .h) ((c .before .before .before .before .before .before .before .before .before .before .before .before .before .args) .used)) ((c .before .before .before .before .before .before .before .before .before .loop) .f)) (sym ((c .before .before .before .before .store) .ensures .1 (not-true _ ((c .if2) .taken)))) ((c .before .before .before .before .before .before .before .before .before .loop) .inv .0)
+returns c =
+    let a = c .before .before .before .before .before .before .before .before .before .before .before .before .before .args in
+    let at-loop = c .before .before .before .before .before .before .before .before .before .loop in
+    let at-store = c .before .before .before .before .store in
+    let at-if2 = c .if2 in
+    subst (Fills (a .text .now) (a .reals .now) (a .settings) (a .h .draft) (unfilled (a .h) (a .used)) (at-loop .f)) (sym (at-store .ensures .1 (not-true _ (at-if2 .taken)))) (at-loop .inv .0)
 
 add-t13 : tie.Need-add-t13 Inv-loop μ-loop
-add-t13 c = omega (arith, (c .before .before .before .before .before .before .before .before .before .before .before .loop) .inv .0 .line-on, (c .before .before .before .before .before .before .before .before .before .before .before .loop) .inv .2, ((c .before .before .before .before .before .before .store) .ensures .0 (not-false _ ((c .before .before .if2) .left))) .passes .lines-on, line-most ((c .before .before .before .before .before .before .before .before .before .before .before .before .before .before .before .args) .text .now) ((c .before .before .before .before .before .before .store) .result .next), (c .before .before .before .before .before .before .before .before .before .before .before .before .before .before .before) .good .0)
+add-t13 c =
+    let a = c .before .before .before .before .before .before .before .before .before .before .before .before .before .before .before .args in
+    let start = c .before .before .before .before .before .before .before .before .before .before .before .before .before .before .before in
+    let at-loop = c .before .before .before .before .before .before .before .before .before .before .before .loop in
+    let at-store = c .before .before .before .before .before .before .store in
+    let at-if2 = c .before .before .if2 in
+    omega (arith, at-loop .inv .0 .line-on, at-loop .inv .2, (at-store .ensures .0 (not-false _ (at-if2 .left))) .passes .lines-on, line-most (a .text .now) (at-store .result .next), start .good .0)
 
 add-t14 : tie.Need-add-t14 Inv-loop μ-loop
-add-t14 c = omega (arith, ((c .before .before .before .before .before .before .before .store) .ensures .0 (not-false _ ((c .before .before .before .if2) .left))) .fits, (c .before .before .before .before .before .before .before .before .before .before .before .before .loop) .inv .1, (c .before .before .before .before .before .before .before .before .before .before .before .before .before .before .before .before) .good .1 .0)
+add-t14 c =
+    let start = c .before .before .before .before .before .before .before .before .before .before .before .before .before .before .before .before in
+    let at-loop = c .before .before .before .before .before .before .before .before .before .before .before .before .loop in
+    let at-store = c .before .before .before .before .before .before .before .store in
+    let at-if2 = c .before .before .before .if2 in
+    omega (arith, (at-store .ensures .0 (not-false _ (at-if2 .left))) .fits, at-loop .inv .1, start .good .1 .0)
 
 loop-less : tie.Need-loop-less Inv-loop μ-loop
 loop-less c = omega (arith, (c .before .before .before .before .before .before .before .before .before .before .if1) .taken)
 
 loop-again : tie.Need-loop-again Inv-loop μ-loop
-loop-again c = (fills-more ((c .before .before .before .before .before .before .before .before .before .before .before .before .before .before .before .before .args) .text .now) ((c .before .before .before .before .before .before .before .before .before .before .before .before .before .before .before .before .args) .reals .now) ((c .before .before .before .before .before .before .before .before .before .before .before .before .before .before .before .before .args) .settings) ((c .before .before .before .before .before .before .before .before .before .before .before .before .before .before .before .before .args) .h .draft) _ ((c .before .before .before .before .before .before .before .before .before .before .before .before .loop) .f) ((c .before .before .before .before .before .before .before .before .before .before .before .before .loop) .reals) ((c .before .before .before .before .before .before .before .before .before .before .before .before .loop) .inv .0) ((c .before .before .before .before .before .before .before .before .before .before .if1) .taken) ((c .before .before .before .before .before .before .before .store) .result) _ ((c .before .before .before .before .before .before .before .store) .ensures .0 (not-false _ ((c .before .before .before .if2) .left))), (c .before .before .before .before .before .before .before .store) .kept .1 .0 ∙ (c .before .before .before .before .before .before .before .before .before .before .before .before .loop) .inv .1, (c .before .before .before .before .before .before .before .before .before .before .before .before .loop) .inv .2)
+loop-again c =
+    let a = c .before .before .before .before .before .before .before .before .before .before .before .before .before .before .before .before .args in
+    let at-loop = c .before .before .before .before .before .before .before .before .before .before .before .before .loop in
+    let at-if1 = c .before .before .before .before .before .before .before .before .before .before .if1 in
+    let at-store = c .before .before .before .before .before .before .before .store in
+    let at-if2 = c .before .before .before .if2 in
+    (fills-more (a .text .now) (a .reals .now) (a .settings) (a .h .draft) _ (at-loop .f) (at-loop .reals) (at-loop .inv .0) (at-if1 .taken) (at-store .result) _ (at-store .ensures .0 (not-false _ (at-if2 .left))), at-store .kept .1 .0 ∙ at-loop .inv .1, at-loop .inv .2)
 
 same-length-2 : tie.Need-same-length-2 Inv-loop μ-loop
 same-length-2 c = (c .before .before .loop) .inv .1

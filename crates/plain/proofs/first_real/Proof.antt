@@ -14,7 +14,11 @@ narrow-requires : tie.Need-narrow-requires
 narrow-requires c κs = search needs
 
 returns-2 : tie.Need-returns-2
-returns-2 c = (c .narrow) .ensures ∙ ap (λ (z : Bool). cond z 0 (clipped ((c .before .before .args) .used))) (sym (ne-eqb ((c .before .before .args) .n) 0 ((c .before .if1) .left)))
+returns-2 c =
+    let a = c .before .before .args in
+    let at-if1 = c .before .if1 in
+    let at-narrow = c .narrow in
+    at-narrow .ensures ∙ ap (λ (z : Bool). cond z 0 (clipped (a .used))) (sym (ne-eqb (a .n) 0 (at-if1 .left)))
 
 pub first-real-spec : {M : Type 1} → statement M
 first-real-spec = tie.close (tie.spec returns narrow-requires returns-2)

@@ -28,7 +28,15 @@ returns-2 : tie.Need-returns-2
 returns-2 c = not-good ((c .nothing2) .ensures)
 
 add-t14 : tie.Need-add-t14
-add-t14 c = omega (arith, (c .before .before .before .before .before .before .before .before .before .before .before .pre), ((c .before .before .before .before .before .before .before .modifier) .ensures (not-false _ ((c .before .before .before .before .before .if1) .left))) .line-on, ((c .before .before .before .before .word) .ensures (not-false _ ((c .before .before .if2) .left))) .passes .lines-on, line-most ((c .before .before .before .before .before .before .before .before .before .before .before .args) .text .now) ((c .before .before .before .before .word) .result .next), (c .before .before .before .before .before .before .before .before .before .before .before) .good .0)
+add-t14 c =
+    let pre = c .before .before .before .before .before .before .before .before .before .before .before .pre in
+    let a = c .before .before .before .before .before .before .before .before .before .before .before .args in
+    let start = c .before .before .before .before .before .before .before .before .before .before .before in
+    let at-modifier = c .before .before .before .before .before .before .before .modifier in
+    let at-if1 = c .before .before .before .before .before .if1 in
+    let at-word = c .before .before .before .before .word in
+    let at-if2 = c .before .before .if2 in
+    omega (arith, pre, (at-modifier .ensures (not-false _ (at-if1 .left))) .line-on, (at-word .ensures (not-false _ (at-if2 .left))) .passes .lines-on, line-most (a .text .now) (at-word .result .next), start .good .0)
 
 part-requires : tie.Need-part-requires
 part-requires c κs = search needs
@@ -40,10 +48,26 @@ same-requires : tie.Need-same-requires
 same-requires c κs = search needs
 
 alias-requires : tie.Need-alias-requires
-alias-requires c κs = omega (arith, (c .before .before .before .before .before .before .before .before .before .before .before .before .before .before .before .pre), ((c .before .before .before .before .before .before .before .before .before .before .before .modifier) .ensures (not-false _ ((c .before .before .before .before .before .before .before .before .before .if1) .left))) .line-on, ((c .before .before .before .before .before .before .before .before .word) .ensures (not-false _ ((c .before .before .before .before .before .before .if2) .left))) .passes .lines-on)
+alias-requires c κs =
+    let pre = c .before .before .before .before .before .before .before .before .before .before .before .before .before .before .before .pre in
+    let at-modifier = c .before .before .before .before .before .before .before .before .before .before .before .modifier in
+    let at-if1 = c .before .before .before .before .before .before .before .before .before .if1 in
+    let at-word = c .before .before .before .before .before .before .before .before .word in
+    let at-if2 = c .before .before .before .before .before .before .if2 in
+    omega (arith, pre, (at-modifier .ensures (not-false _ (at-if1 .left))) .line-on, (at-word .ensures (not-false _ (at-if2 .left))) .passes .lines-on)
 
 returns-3 : tie.Need-returns-3
-returns-3 c = λ h. begins-on ((c .before .before .before .before .before .before .before .before .before .before .before .before .before .before .before .before .args) .text .now) ((c .before .before .before .before .before .before .before .before .before .before .before .before .before .before .before .before .args) .records .now) ((c .before .before .before .before .before .before .before .before .before .before .before .before .before .before .before .before .args) .index .now) ((c .before .before .before .before .before .before .before .before .before .before .before .before .before .before .before .before .args) .settings) (idleAt ((c .before .before .before .before .before .before .before .before .before .before .before .before .before .before .before .before .args) .b)) _ ((c .before .before .before .before .before .before .before .before .before .before .before .before .before .before .before .before .args) .b .line) _ (on-alias ((c .before .before .before .before .before .before .before .before .before .before .before .before .before .before .before .before .args) .text .now) ((c .before .before .before .before .before .before .before .before .before .before .before .before .before .before .before .before .args) .records .now) ((c .before .before .before .before .before .before .before .before .before .before .before .before .before .before .before .before .args) .index .now) ((c .before .before .before .before .before .before .before .before .before .before .before .before .before .before .before .before .args) .settings) (idleAt ((c .before .before .before .before .before .before .before .before .before .before .before .before .before .before .before .before .args) .b)) ((c .before .before .before .before .before .before .before .before .before .before .before .before .before .before .before .before .args) .b .line) ((c .before .before .before .before .before .before .before .before .before .before .before .before .before .before .before .before .args) .b .count) ((c .before .before .before .before .before .before .before .before .before .before .before .before .before .before .before .before .args) .b .used) ((c .before .before .before .before .before .before .before .before .before .before .before .before .modifier) .result .looked) ((c .before .before .before .before .before .before .before .before .before .before .before .before .modifier) .result .link) ((c .before .before .before .before .before .before .before .before .before .before .before .before .modifier) .result) ((c .before .before .before .before .before .before .before .before .before .before .before .before .modifier) .ensures (not-false _ ((c .before .before .before .before .before .before .before .before .before .before .if1) .left))) ((c .before .before .before .before .before .before .before .before .before .word) .result) ((c .before .before .before .before .before .before .before .before .before .word) .ensures (not-false _ ((c .before .before .before .before .before .before .before .if2) .left))) ((c .before .before .before .before .part) .ensures) ((c .before .before .same) .ensures) ((c .before .if3) .taken)) refl refl ((c .alias) .result) ((c .alias) .ensures h ((c .before .before .before .before .before .before .before .before .before .before .before .before .before .before .before .before .args) .settings))
+returns-3 c =
+    let a = c .before .before .before .before .before .before .before .before .before .before .before .before .before .before .before .before .args in
+    let at-modifier = c .before .before .before .before .before .before .before .before .before .before .before .before .modifier in
+    let at-if1 = c .before .before .before .before .before .before .before .before .before .before .if1 in
+    let at-word = c .before .before .before .before .before .before .before .before .before .word in
+    let at-if2 = c .before .before .before .before .before .before .before .if2 in
+    let at-part = c .before .before .before .before .part in
+    let at-same = c .before .before .same in
+    let at-if3 = c .before .if3 in
+    let at-alias = c .alias in
+    λ h. begins-on (a .text .now) (a .records .now) (a .index .now) (a .settings) (idleAt (a .b)) _ (a .b .line) _ (on-alias (a .text .now) (a .records .now) (a .index .now) (a .settings) (idleAt (a .b)) (a .b .line) (a .b .count) (a .b .used) (at-modifier .result .looked) (at-modifier .result .link) (at-modifier .result) (at-modifier .ensures (not-false _ (at-if1 .left))) (at-word .result) (at-word .ensures (not-false _ (at-if2 .left))) (at-part .ensures) (at-same .ensures) (at-if3 .taken)) refl refl (at-alias .result) (at-alias .ensures h (a .settings))
 
 type-number-requires : tie.Need-type-number-requires
 type-number-requires c κs = search needs
@@ -64,10 +88,30 @@ returns-5 : tie.Need-returns-5
 returns-5 c = not-good ((c .nothing4) .ensures)
 
 primitive-requires : tie.Need-primitive-requires
-primitive-requires c κs = omega (arith, (c .before .before .before .before .before .before .before .before .before .before .before .before .before .before .before .before .before .before .before .pre), ((c .before .before .before .before .before .before .before .before .before .before .before .before .before .before .before .modifier) .ensures (not-false _ ((c .before .before .before .before .before .before .before .before .before .before .before .before .before .if1) .left))) .line-on, ((c .before .before .before .before .before .before .before .before .before .before .before .before .word) .ensures (not-false _ ((c .before .before .before .before .before .before .before .before .before .before .if2) .left))) .passes .lines-on)
+primitive-requires c κs =
+    let pre = c .before .before .before .before .before .before .before .before .before .before .before .before .before .before .before .before .before .before .before .pre in
+    let at-modifier = c .before .before .before .before .before .before .before .before .before .before .before .before .before .before .before .modifier in
+    let at-if1 = c .before .before .before .before .before .before .before .before .before .before .before .before .before .if1 in
+    let at-word = c .before .before .before .before .before .before .before .before .before .before .before .before .word in
+    let at-if2 = c .before .before .before .before .before .before .before .before .before .before .if2 in
+    omega (arith, pre, (at-modifier .ensures (not-false _ (at-if1 .left))) .line-on, (at-word .ensures (not-false _ (at-if2 .left))) .passes .lines-on)
 
 returns-6 : tie.Need-returns-6
-returns-6 c = λ h. begins-on ((c .before .before .before .before .before .before .before .before .before .before .before .before .before .before .before .before .before .before .before .before .args) .text .now) ((c .before .before .before .before .before .before .before .before .before .before .before .before .before .before .before .before .before .before .before .before .args) .records .now) ((c .before .before .before .before .before .before .before .before .before .before .before .before .before .before .before .before .before .before .before .before .args) .index .now) ((c .before .before .before .before .before .before .before .before .before .before .before .before .before .before .before .before .before .before .before .before .args) .settings) (idleAt ((c .before .before .before .before .before .before .before .before .before .before .before .before .before .before .before .before .before .before .before .before .args) .b)) _ ((c .before .before .before .before .before .before .before .before .before .before .before .before .before .before .before .before .before .before .before .before .args) .b .line) _ (on-kind ((c .before .before .before .before .before .before .before .before .before .before .before .before .before .before .before .before .before .before .before .before .args) .text .now) ((c .before .before .before .before .before .before .before .before .before .before .before .before .before .before .before .before .before .before .before .before .args) .records .now) ((c .before .before .before .before .before .before .before .before .before .before .before .before .before .before .before .before .before .before .before .before .args) .index .now) ((c .before .before .before .before .before .before .before .before .before .before .before .before .before .before .before .before .before .before .before .before .args) .settings) (idleAt ((c .before .before .before .before .before .before .before .before .before .before .before .before .before .before .before .before .before .before .before .before .args) .b)) ((c .before .before .before .before .before .before .before .before .before .before .before .before .before .before .before .before .before .before .before .before .args) .b .line) ((c .before .before .before .before .before .before .before .before .before .before .before .before .before .before .before .before .before .before .before .before .args) .b .count) ((c .before .before .before .before .before .before .before .before .before .before .before .before .before .before .before .before .before .before .before .before .args) .b .used) ((c .before .before .before .before .before .before .before .before .before .before .before .before .before .before .before .before .modifier) .result .looked) ((c .before .before .before .before .before .before .before .before .before .before .before .before .before .before .before .before .modifier) .result .link) ((c .before .before .before .before .before .before .before .before .before .before .before .before .before .before .before .before .modifier) .result) ((c .before .before .before .before .before .before .before .before .before .before .before .before .before .before .before .before .modifier) .ensures (not-false _ ((c .before .before .before .before .before .before .before .before .before .before .before .before .before .before .if1) .left))) ((c .before .before .before .before .before .before .before .before .before .before .before .before .before .word) .result) ((c .before .before .before .before .before .before .before .before .before .before .before .before .before .word) .ensures (not-false _ ((c .before .before .before .before .before .before .before .before .before .before .before .if2) .left))) ((c .before .before .before .before .before .before .before .before .part) .ensures) ((c .before .before .before .before .before .before .same) .ensures) ((c .before .before .before .before .before .if3) .left) _ ((c .before .before .before .before .type-number) .ensures) ((c .before .before .before .if4) .left) (sym ((c .before .before .is-retired) .ensures) ∙ (c .before .if5) .left)) refl refl ((c .primitive) .result) ((c .primitive) .ensures h ((c .before .before .before .before .before .before .before .before .before .before .before .before .before .before .before .before .before .before .before .before .args) .records .now) ((c .before .before .before .before .before .before .before .before .before .before .before .before .before .before .before .before .before .before .before .before .args) .index .now))
+returns-6 c =
+    let a = c .before .before .before .before .before .before .before .before .before .before .before .before .before .before .before .before .before .before .before .before .args in
+    let at-modifier = c .before .before .before .before .before .before .before .before .before .before .before .before .before .before .before .before .modifier in
+    let at-if1 = c .before .before .before .before .before .before .before .before .before .before .before .before .before .before .if1 in
+    let at-word = c .before .before .before .before .before .before .before .before .before .before .before .before .before .word in
+    let at-if2 = c .before .before .before .before .before .before .before .before .before .before .before .if2 in
+    let at-part = c .before .before .before .before .before .before .before .before .part in
+    let at-same = c .before .before .before .before .before .before .same in
+    let at-if3 = c .before .before .before .before .before .if3 in
+    let at-type-number = c .before .before .before .before .type-number in
+    let at-if4 = c .before .before .before .if4 in
+    let at-is-retired = c .before .before .is-retired in
+    let at-if5 = c .before .if5 in
+    let at-primitive = c .primitive in
+    λ h. begins-on (a .text .now) (a .records .now) (a .index .now) (a .settings) (idleAt (a .b)) _ (a .b .line) _ (on-kind (a .text .now) (a .records .now) (a .index .now) (a .settings) (idleAt (a .b)) (a .b .line) (a .b .count) (a .b .used) (at-modifier .result .looked) (at-modifier .result .link) (at-modifier .result) (at-modifier .ensures (not-false _ (at-if1 .left))) (at-word .result) (at-word .ensures (not-false _ (at-if2 .left))) (at-part .ensures) (at-same .ensures) (at-if3 .left) _ (at-type-number .ensures) (at-if4 .left) (sym (at-is-retired .ensures) ∙ at-if5 .left)) refl refl (at-primitive .result) (at-primitive .ensures h (a .records .now) (a .index .now))
 
 pub head-at-spec : {M : Type 1} → statement M
 head-at-spec =

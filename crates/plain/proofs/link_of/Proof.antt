@@ -11,7 +11,11 @@ same-requires : tie.Need-same-requires
 same-requires c κs = search needs
 
 returns : tie.Need-returns
-returns c = λ h. void-links ((c .before .before .before .before .before .before .before .args) .text .now) ((c .before .before .before .before .before .before .before .args) .records .now) ((c .before .before .before .before .before .before .before .args) .index .now) ((c .before .before .before .before .before .before .before .args) .count) ((c .before .before .before .before .before .before .before .args) .word .now) ((c .before .same) .ensures) ((c .if1) .taken)
+returns c =
+    let a = c .before .before .before .before .before .before .before .args in
+    let at-same = c .before .same in
+    let at-if1 = c .if1 in
+    λ h. void-links (a .text .now) (a .records .now) (a .index .now) (a .count) (a .word .now) (at-same .ensures) (at-if1 .taken)
 
 search-requires : tie.Need-search-requires
 search-requires c κs = search needs
@@ -20,7 +24,13 @@ narrow-requires : tie.Need-narrow-requires
 narrow-requires c κs = search needs
 
 returns-2 : tie.Need-returns-2
-returns-2 c = λ h. found-links ((c .before .before .before .before .before .before .before .before .before .before .args) .text .now) ((c .before .before .before .before .before .before .before .before .before .before .args) .records .now) ((c .before .before .before .before .before .before .before .before .before .before .args) .index .now) ((c .before .before .before .before .before .before .before .before .before .before .args) .count) ((c .before .before .before .before .before .before .before .before .before .before .args) .word .now) ((c .before .before .before .before .same) .ensures) ((c .before .before .before .if1) .left) ((c .before .before .search) .result) ((c .before .before .search) .ensures) _ ((c .narrow) .ensures) h
+returns-2 c =
+    let a = c .before .before .before .before .before .before .before .before .before .before .args in
+    let at-same = c .before .before .before .before .same in
+    let at-if1 = c .before .before .before .if1 in
+    let at-search = c .before .before .search in
+    let at-narrow = c .narrow in
+    λ h. found-links (a .text .now) (a .records .now) (a .index .now) (a .count) (a .word .now) (at-same .ensures) (at-if1 .left) (at-search .result) (at-search .ensures) _ (at-narrow .ensures) h
 
 pub link-of-spec : {M : Type 1} → statement M
 link-of-spec =

@@ -18,7 +18,11 @@ returns : tie.Need-returns
 returns c = not-good ((c .no-modifier) .ensures)
 
 shared-slice-read-first : tie.Need-shared-slice-read-first
-shared-slice-read-first c = omega (arith, passed-on ((c .before .before .before .before .before .before .before .args) .text .now) ((c .before .before .before .before .before .before .before .args) .b .at) _ _ (((c .before .before .before .word) .ensures (not-false _ ((c .before .if1) .left))) .passes) .3, ((c .before .before .before .word) .ensures (not-false _ ((c .before .if1) .left))) .place-is)
+shared-slice-read-first c =
+    let a = c .before .before .before .before .before .before .before .args in
+    let at-word = c .before .before .before .word in
+    let at-if1 = c .before .if1 in
+    omega (arith, passed-on (a .text .now) (a .b .at) _ _ ((at-word .ensures (not-false _ (at-if1 .left))) .passes) .3, (at-word .ensures (not-false _ (at-if1 .left))) .place-is)
 
 no-modifier-requires-2 : tie.Need-no-modifier-requires-2
 no-modifier-requires-2 c κs = search needs
@@ -39,13 +43,28 @@ link-of-requires : tie.Need-link-of-requires
 link-of-requires c κs = search needs
 
 add-t16 : tie.Need-add-t16
-add-t16 c = omega (arith, (c .before .before .before .before .before .before .before .before .before .before .before .before .before .before .before .pre), ((c .before .before .before .before .before .before .before .before .before .before .before .word) .ensures (not-false _ ((c .before .before .before .before .before .before .before .before .before .if1) .left))) .passes .lines-on, line-most ((c .before .before .before .before .before .before .before .before .before .before .before .before .before .before .before .args) .text .now) ((c .before .before .before .before .before .before .before .before .before .before .before .word) .result .next), (c .before .before .before .before .before .before .before .before .before .before .before .before .before .before .before) .good .0)
+add-t16 c =
+    let pre = c .before .before .before .before .before .before .before .before .before .before .before .before .before .before .before .pre in
+    let a = c .before .before .before .before .before .before .before .before .before .before .before .before .before .before .before .args in
+    let start = c .before .before .before .before .before .before .before .before .before .before .before .before .before .before .before in
+    let at-word = c .before .before .before .before .before .before .before .before .before .before .before .word in
+    let at-if1 = c .before .before .before .before .before .before .before .before .before .if1 in
+    omega (arith, pre, (at-word .ensures (not-false _ (at-if1 .left))) .passes .lines-on, line-most (a .text .now) (at-word .result .next), start .good .0)
 
 sum-requires : tie.Need-sum-requires
 sum-requires c κs = search needs
 
 returns-4 : tie.Need-returns-4
-returns-4 c = λ h. opens ((c .before .before .before .before .before .before .before .before .before .before .before .before .before .before .before .before .args) .text .now) ((c .before .before .before .before .before .before .before .before .before .before .before .before .before .before .before .before .args) .records .now) ((c .before .before .before .before .before .before .before .before .before .before .before .before .before .before .before .before .args) .index .now) ((c .before .before .before .before .before .before .before .before .before .before .before .before .before .before .before .before .args) .settings) ((c .before .before .before .before .before .before .before .before .before .before .before .before .before .before .before .before .args) .b) ((c .before .before .before .before .before .before .before .before .before .before .before .before .word) .result) ((c .before .before .before .before .before .before .before .before .before .before .before .before .word) .ensures (not-false _ ((c .before .before .before .before .before .before .before .before .before .before .if1) .left))) ((c .before .before .before .before .before .before .before .before .if2) .left) ((c .before .before .before .before .before .if3) .left) ((c .before .before .before .link-of) .result) _ ((c .before .before .before .before .part) .ensures) ((c .before .before .before .link-of) .ensures h) _ ((c .sum) .ensures) ((c .before .before .before .link-of) .result .good)
+returns-4 c =
+    let a = c .before .before .before .before .before .before .before .before .before .before .before .before .before .before .before .before .args in
+    let at-word = c .before .before .before .before .before .before .before .before .before .before .before .before .word in
+    let at-if1 = c .before .before .before .before .before .before .before .before .before .before .if1 in
+    let at-if2 = c .before .before .before .before .before .before .before .before .if2 in
+    let at-if3 = c .before .before .before .before .before .if3 in
+    let at-part = c .before .before .before .before .part in
+    let at-link-of = c .before .before .before .link-of in
+    let at-sum = c .sum in
+    λ h. opens (a .text .now) (a .records .now) (a .index .now) (a .settings) (a .b) (at-word .result) (at-word .ensures (not-false _ (at-if1 .left))) (at-if2 .left) (at-if3 .left) (at-link-of .result) _ (at-part .ensures) (at-link-of .ensures h) _ (at-sum .ensures) (at-link-of .result .good)
 
 pub modifier-spec : {M : Type 1} → statement M
 modifier-spec =

@@ -24,7 +24,13 @@ returns : tie.Need-returns
 returns c = not-good ((c .no-word) .ensures)
 
 returns-2 : tie.Need-returns-2
-returns-2 c = names ((c .before .before .before .before .before .before .args) .text .now) ((c .before .before .before .before .before .before .args) .at) ((c .before .before .before .before .word) .result) ((c .before .before .before .before .word) .ensures) ((c .before .before .before .part) .ensures) ((c .before .same) .ensures) ((c .if1) .left)
+returns-2 c =
+    let a = c .before .before .before .before .before .before .args in
+    let at-word = c .before .before .before .before .word in
+    let at-part = c .before .before .before .part in
+    let at-same = c .before .same in
+    let at-if1 = c .if1 in
+    names (a .text .now) (a .at) (at-word .result) (at-word .ensures) (at-part .ensures) (at-same .ensures) (at-if1 .left)
 
 pub name-spec : {M : Type 1} → statement M
 name-spec =

@@ -50,13 +50,33 @@ returns-4 : tie.Need-returns-4
 returns-4 c = not-good ((c .nothing4) .ensures)
 
 add-t12 : tie.Need-add-t12
-add-t12 c = omega (arith, (c .before .before .before .before .before .before .before .before .before .before .before .before .before .before .pre), ((c .before .before .before .before .before .before .before .before .before .before .before .before .name) .ensures (not-false _ ((c .before .before .before .before .before .before .before .before .before .before .if1) .left))) .word .passes .lines-on, line-most ((c .before .before .before .before .before .before .before .before .before .before .before .before .before .before .args) .text .now) ((c .before .before .before .before .before .before .before .before .before .before .before .before .name) .result .next), (c .before .before .before .before .before .before .before .before .before .before .before .before .before .before) .good .0)
+add-t12 c =
+    let pre = c .before .before .before .before .before .before .before .before .before .before .before .before .before .before .pre in
+    let a = c .before .before .before .before .before .before .before .before .before .before .before .before .before .before .args in
+    let start = c .before .before .before .before .before .before .before .before .before .before .before .before .before .before in
+    let at-name = c .before .before .before .before .before .before .before .before .before .before .before .before .name in
+    let at-if1 = c .before .before .before .before .before .before .before .before .before .before .if1 in
+    omega (arith, pre, (at-name .ensures (not-false _ (at-if1 .left))) .word .passes .lines-on, line-most (a .text .now) (at-name .result .next), start .good .0)
 
 add-t13 : tie.Need-add-t13
-add-t13 c = omega (arith, (c .before .before .before .before .before .before .before .before .before .before .before .before .before .before .before .pre), ((c .before .before .before .before .before .before .before .before .before .before .before .before .before .name) .ensures (not-false _ ((c .before .before .before .before .before .before .before .before .before .before .before .if1) .left))) .word .passes .lines-on, ((c .before .before .before .before .before .before .before .before .before .before .counts-at) .ensures (not-false _ ((c .before .before .before .before .before .before .before .before .if2) .left))) .lines-on, line-most ((c .before .before .before .before .before .before .before .before .before .before .before .before .before .before .before .args) .text .now) ((c .before .before .before .before .before .before .before .before .before .before .counts-at) .result .next), (c .before .before .before .before .before .before .before .before .before .before .before .before .before .before .before) .good .0)
+add-t13 c =
+    let pre = c .before .before .before .before .before .before .before .before .before .before .before .before .before .before .before .pre in
+    let a = c .before .before .before .before .before .before .before .before .before .before .before .before .before .before .before .args in
+    let start = c .before .before .before .before .before .before .before .before .before .before .before .before .before .before .before in
+    let at-name = c .before .before .before .before .before .before .before .before .before .before .before .before .before .name in
+    let at-if1 = c .before .before .before .before .before .before .before .before .before .before .before .if1 in
+    let at-counts-at = c .before .before .before .before .before .before .before .before .before .before .counts-at in
+    let at-if2 = c .before .before .before .before .before .before .before .before .if2 in
+    omega (arith, pre, (at-name .ensures (not-false _ (at-if1 .left))) .word .passes .lines-on, (at-counts-at .ensures (not-false _ (at-if2 .left))) .lines-on, line-most (a .text .now) (at-counts-at .result .next), start .good .0)
 
 add-t14 : tie.Need-add-t14
-add-t14 c = omega (arith, (c .before .before .before .before .before .before .before .before .before .before .before .before .before .before .before .before .before .pre), ((c .before .before .before .before .before .before .before .before .before .before .before .before .before .before .before .name) .ensures (not-false _ ((c .before .before .before .before .before .before .before .before .before .before .before .before .before .if1) .left))) .word .lines-before, line-most ((c .before .before .before .before .before .before .before .before .before .before .before .before .before .before .before .before .before .args) .text .now) ((c .before .before .before .before .before .before .before .before .before .before .before .before .before .before .before .name) .result .place), (c .before .before .before .before .before .before .before .before .before .before .before .before .before .before .before .before .before) .good .0)
+add-t14 c =
+    let pre = c .before .before .before .before .before .before .before .before .before .before .before .before .before .before .before .before .before .pre in
+    let a = c .before .before .before .before .before .before .before .before .before .before .before .before .before .before .before .before .before .args in
+    let start = c .before .before .before .before .before .before .before .before .before .before .before .before .before .before .before .before .before in
+    let at-name = c .before .before .before .before .before .before .before .before .before .before .before .before .before .before .before .name in
+    let at-if1 = c .before .before .before .before .before .before .before .before .before .before .before .before .before .if1 in
+    omega (arith, pre, (at-name .ensures (not-false _ (at-if1 .left))) .word .lines-before, line-most (a .text .now) (at-name .result .place), start .good .0)
 
 narrow-requires : tie.Need-narrow-requires
 narrow-requires c κs = search needs
@@ -68,7 +88,21 @@ first-real-requires : tie.Need-first-real-requires
 first-real-requires c κs = search needs
 
 returns-5 : tie.Need-returns-5
-returns-5 c = λ h T X. begins-primitive ((c .before .before .before .before .before .before .before .before .before .before .before .before .before .before .before .before .before .before .before .before .args) .text .now) T X ((c .before .before .before .before .before .before .before .before .before .before .before .before .before .before .before .before .before .before .before .before .args) .settings) ((c .before .before .before .before .before .before .before .before .before .before .before .before .before .before .before .before .before .before .before .before .args) .b) ((c .before .before .before .before .before .before .before .before .before .before .before .before .before .before .before .before .before .before .before .before .args) .link) ((c .before .before .before .before .before .before .before .before .before .before .before .before .before .before .before .before .before .before .before .before .args) .kind) ((c .before .before .before .before .before .before .before .before .before .before .before .before .before .before .before .before .before .before .name) .result) ((c .before .before .before .before .before .before .before .before .before .before .before .before .before .before .before .counts-at) .result) ((c .before .before .before .before .before .before .before .before .before .before .before .before .before .before .before .before .before .before .name) .ensures (not-false _ ((c .before .before .before .before .before .before .before .before .before .before .before .before .before .before .before .before .if1) .left))) ((c .before .before .before .before .before .before .before .before .before .before .before .before .before .before .before .counts-at) .ensures (not-false _ ((c .before .before .before .before .before .before .before .before .before .before .before .before .before .if2) .left))) (sym ((c .before .before .before .before .before .before .before .before .before .before .before .before .strings-allowed) .ensures) ∙ and-left ((c .before .before .before .before .before .before .before .before .before .before .before .before .strings-allowed) .result) ((c .before .before .before .before .before .before .before .before .before .before .before .reals-allowed) .result) (not-false _ ((c .before .before .before .before .before .before .before .before .before .before .if3) .left))) (sym ((c .before .before .before .before .before .before .before .before .before .before .before .reals-allowed) .ensures) ∙ and-right ((c .before .before .before .before .before .before .before .before .before .before .before .before .strings-allowed) .result) ((c .before .before .before .before .before .before .before .before .before .before .before .reals-allowed) .result) (not-false _ ((c .before .before .before .before .before .before .before .before .before .before .if3) .left))) (leb-true ((c .before .before .before .before .before .before .before .before .before .before .before .before .before .before .before .before .before .before .before .before .args) .b .used + (c .before .before .before .before .before .before .before .before .before .before .before .before .before .before .before .counts-at) .result .reals) ((c .before .before .before .before .before .before .before .before .before .before .before .before .before .before .before .before .before .before .before .before .args) .settings .reals) (sym ((c .before .before .before .before .before .before .before .before .before .fits2) .ensures) ∙ not-false _ ((c .before .before .before .before .before .before .before .before .if4) .left))) _ _ _ ((c .before .before .narrow) .ensures) ((c .before .narrow2) .ensures) ((c .first-real) .ensures)
+returns-5 c =
+    let a = c .before .before .before .before .before .before .before .before .before .before .before .before .before .before .before .before .before .before .before .before .args in
+    let at-name = c .before .before .before .before .before .before .before .before .before .before .before .before .before .before .before .before .before .before .name in
+    let at-if1 = c .before .before .before .before .before .before .before .before .before .before .before .before .before .before .before .before .if1 in
+    let at-counts-at = c .before .before .before .before .before .before .before .before .before .before .before .before .before .before .before .counts-at in
+    let at-if2 = c .before .before .before .before .before .before .before .before .before .before .before .before .before .if2 in
+    let at-strings-allowed = c .before .before .before .before .before .before .before .before .before .before .before .before .strings-allowed in
+    let at-reals-allowed = c .before .before .before .before .before .before .before .before .before .before .before .reals-allowed in
+    let at-if3 = c .before .before .before .before .before .before .before .before .before .before .if3 in
+    let at-fits2 = c .before .before .before .before .before .before .before .before .before .fits2 in
+    let at-if4 = c .before .before .before .before .before .before .before .before .if4 in
+    let at-narrow = c .before .before .narrow in
+    let at-narrow2 = c .before .narrow2 in
+    let at-first-real = c .first-real in
+    λ h T X. begins-primitive (a .text .now) T X (a .settings) (a .b) (a .link) (a .kind) (at-name .result) (at-counts-at .result) (at-name .ensures (not-false _ (at-if1 .left))) (at-counts-at .ensures (not-false _ (at-if2 .left))) (sym (at-strings-allowed .ensures) ∙ and-left (at-strings-allowed .result) (at-reals-allowed .result) (not-false _ (at-if3 .left))) (sym (at-reals-allowed .ensures) ∙ and-right (at-strings-allowed .result) (at-reals-allowed .result) (not-false _ (at-if3 .left))) (leb-true (a .b .used + at-counts-at .result .reals) (a .settings .reals) (sym (at-fits2 .ensures) ∙ not-false _ (at-if4 .left))) _ _ _ (at-narrow .ensures) (at-narrow2 .ensures) (at-first-real .ensures)
 
 pub primitive-spec : {M : Type 1} → statement M
 primitive-spec =

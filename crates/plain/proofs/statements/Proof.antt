@@ -1,12 +1,19 @@
+use mathlib.Core.List.{List}
 use mathlib.Core.Path.{_≡_, refl, ap, sym, subst, _∙_}
-use Prim.Native.Nat.{_+_, _-_, _≤_}
+use Prim.Native.Nat.{ℕ, _+_, _-_, _≤_, _<_}
 use native.Mathlib.Omega.{arith}
 use borrow.Author.Tests.{not-false}
+use lib.Ieee.{Float}
 use lib.ListN.{length}
+use Rattle.laws.specs.Bytes.{Bytes}
 use Rattle.plain.proofs.WholeLaws.{goes-whole, line-bound, line-kept, stands, stops-inside, whole-further, whole-within}
-use Rattle.plain.specs.Plain.{Stands}
+use Rattle.plain.specs.Plain.{Begins, Fills, Stands, idleAt, unfilled}
+use Rattle.plain.specs.declared.Between.{Between}
+use Rattle.plain.specs.declared.Filled.{Filled}
+use Rattle.plain.specs.declared.Head.{Head}
 use Rattle.progress.specs.Invariant.{Inv}
 use Rattle.scene.specs.Record.{lineAt}
+use Rattle.scene.specs.declared.Settings.{Settings}
 use Rattle.statement.specs.States.{clipped}
 use Rattle.statement.specs.declared.State.{State}
 -- `plain::statements` meets its contract: each turn of the loop reads and enters one statement.
@@ -56,25 +63,97 @@ same-length-3 : tie.Need-same-length-3 Inv-loop μ-loop
 same-length-3 c = (c .before .before .before .before .before .before .before .before .before .loop) .inv .5
 
 returns-2 : tie.Need-returns-2 Inv-loop μ-loop
-returns-2 c = (λ I. subst (Inv ((c .before .before .before .before .before .before .before .before .before .before .before .before .before .before .before .before .before .before .before .before .args) .text .now) ((c .before .before .before .before .before .before .before .before .before .loop) .records) ((c .before .before .before .before .before .before .before .before .before .loop) .reals) ((c .before .before .before .before .before .before .before .before .before .loop) .index) ((c .before .before .before .before .before .before .before .before .before .before .before .before .before .before .before .before .before .before .before .before .args) .settings)) (sym ((c .between) .ensures)) ((c .before .before .before .before .before .before .before .before .before .loop) .inv .0 (stands ((c .before .before .before .before .before .before .before .before .before .before .before .before .before .before .before .before .before .before .before .before .args) .text .now) ((c .before .before .before .before .before .before .before .before .before .before .before .before .before .before .before .before .before .before .before .before .args) .records .now) ((c .before .before .before .before .before .before .before .before .before .before .before .before .before .before .before .before .before .before .before .before .args) .reals .now) ((c .before .before .before .before .before .before .before .before .before .before .before .before .before .before .before .before .before .before .before .before .args) .index .now) ((c .before .before .before .before .before .before .before .before .before .before .before .before .before .before .before .before .before .before .before .before .args) .settings) ((c .before .before .before .before .before .before .before .before .before .before .before .before .before .before .before .before .before .before .before .before .args) .s) I (sym ((c .before .before .before .before .before .before .before .before .before .before .before .before .before .before .before .is-idle) .ensures) ∙ not-false _ ((c .before .before .before .before .before .before .before .before .before .before .before .before .before .before .if1) .left)) _ ((c .before .before .before .before .before .before .before .before .before .before .wide) .ensures ∙ (c .before .before .before .before .before .before .before .before .before .before .before .narrow) .ensures ∙ ap clipped ((c .before .before .before .before .before .before .before .before .before .before .before .before .line-of) .ensures))) .inv), omega (arith, ap (λ (z : State). z .at) ((c .between) .ensures), (c .before .before .before .before .before .before .before .before .before .loop) .inv .2))
+returns-2 c =
+    let a = c .before .before .before .before .before .before .before .before .before .before .before .before .before .before .before .before .before .before .before .before .args in
+    let at-is-idle = c .before .before .before .before .before .before .before .before .before .before .before .before .before .before .before .is-idle in
+    let at-if1 = c .before .before .before .before .before .before .before .before .before .before .before .before .before .before .if1 in
+    let at-line-of = c .before .before .before .before .before .before .before .before .before .before .before .before .line-of in
+    let at-narrow = c .before .before .before .before .before .before .before .before .before .before .before .narrow in
+    let at-wide = c .before .before .before .before .before .before .before .before .before .before .wide in
+    let at-loop = c .before .before .before .before .before .before .before .before .before .loop in
+    let at-between = c .between in
+    (λ I. subst (Inv (a .text .now) (at-loop .records) (at-loop .reals) (at-loop .index) (a .settings)) (sym (at-between .ensures)) (at-loop .inv .0 (stands (a .text .now) (a .records .now) (a .reals .now) (a .index .now) (a .settings) (a .s) I (sym (at-is-idle .ensures) ∙ not-false _ (at-if1 .left)) _ (at-wide .ensures ∙ at-narrow .ensures ∙ ap clipped (at-line-of .ensures))) .inv), omega (arith, ap (λ (z : State). z .at) (at-between .ensures), at-loop .inv .2))
 
 fill-requires : tie.Need-fill-requires Inv-loop μ-loop
-fill-requires c κs = omega (arith, (c .before .before .before .before .before .before .before .before .before .loop) .inv .1, ((c .before .before .before .head-at) .ensures (not-false _ ((c .before .if3) .left))) .line-on)
+fill-requires c κs =
+    let at-loop = c .before .before .before .before .before .before .before .before .before .loop in
+    let at-head-at = c .before .before .before .head-at in
+    let at-if3 = c .before .if3 in
+    omega (arith, at-loop .inv .1, at-head-at .ensures (not-false _ (at-if3 .left)) .line-on)
 
-sub-t27 : tie.Need-sub-t27 Inv-loop μ-loop
-sub-t27 c = omega (arith, (c .before .if4) .taken)
+-- a turn of the loop, once the statement's reals are stored
+module _ (p : tie.After-fill Inv-loop μ-loop) where
+  abbrev text : Bytes
+  text = p .before .before .before .before .before .before .before .before .before .before .before .before .before .before .before .before .before .before .before .before .before .args .text .now
+
+  abbrev settings : Settings
+  settings = p .before .before .before .before .before .before .before .before .before .before .before .before .before .before .before .before .before .before .before .before .before .args .settings
+
+  abbrev records : List ℕ
+  records = p .before .before .before .before .before .before .before .before .before .before .loop .records
+
+  abbrev reals : List Float
+  reals = p .before .before .before .before .before .before .before .before .before .before .loop .reals
+
+  abbrev index : List ℕ
+  index = p .before .before .before .before .before .before .before .before .before .before .loop .index
+
+  abbrev from : Between
+  from = p .before .before .before .before .before .before .before .before .before .before .loop .b
+
+  abbrev head : Head
+  head = p .before .before .before .before .head-at .result
+
+  abbrev filled : Filled
+  filled = p .fill .result
+
+  abbrev stored : List Float
+  stored = p .fill .last .1 .0
+
+  begins : Begins text records index settings (idleAt from) (from .line) head
+  begins = p .before .before .before .before .head-at .ensures (not-false _ (p .before .before .if3 .left))
+
+  fills : Fills text reals settings (head .draft) (unfilled head (from .used)) filled stored
+  fills = p .fill .ensures
+
+  further : from .at < filled .at
+  further = whole-further text records reals index settings from head begins filled stored fills
+
+  within : from .at ≤ length text
+  within = whole-within text records reals index settings from head begins filled stored fills
+
+at-real-requires : tie.Need-at-real-requires Inv-loop μ-loop
+at-real-requires c κs = search needs
 
 same-length-4 : tie.Need-same-length-4 Inv-loop μ-loop
-same-length-4 c = (c .before .before .before .before .before .before .before .before .before .before .before .before .before .before .before .before .loop) .inv .3
+same-length-4 c =
+    let at-loop = c .before .before .before .before .before .before .before .before .before .before .before .before .before .before .before .loop in
+    at-loop .inv .3
 
 same-length-5 : tie.Need-same-length-5 Inv-loop μ-loop
-same-length-5 c = (c .before .before .before .before .before .before .fill) .kept .1 .0 ∙ (c .before .before .before .before .before .before .before .before .before .before .before .before .before .before .before .before .loop) .inv .4
+same-length-5 c =
+    let at-loop = c .before .before .before .before .before .before .before .before .before .before .before .before .before .before .before .loop in
+    let at-fill = c .before .before .before .before .before .fill in
+    at-fill .kept .1 .0 ∙ at-loop .inv .4
 
 same-length-6 : tie.Need-same-length-6 Inv-loop μ-loop
-same-length-6 c = (c .before .before .before .before .before .before .before .before .before .before .before .before .before .before .before .before .loop) .inv .5
+same-length-6 c =
+    let at-loop = c .before .before .before .before .before .before .before .before .before .before .before .before .before .before .before .loop in
+    at-loop .inv .5
 
 returns-3 : tie.Need-returns-3 Inv-loop μ-loop
-returns-3 c = (λ I. stops-inside ((c .before .before .before .before .before .before .before .before .before .before .before .before .before .before .before .before .before .before .before .before .before .before .before .before .before .before .before .args) .text .now) ((c .before .before .before .before .before .before .before .before .before .before .before .before .before .before .before .before .loop) .records) ((c .before .before .before .before .before .before .before .before .before .before .before .before .before .before .before .before .loop) .reals) ((c .before .before .before .before .before .before .before .before .before .before .before .before .before .before .before .before .loop) .index) ((c .before .before .before .before .before .before .before .before .before .before .before .before .before .before .before .before .before .before .before .before .before .before .before .before .before .before .before .args) .settings) ((c .before .before .before .before .before .before .before .before .before .before .before .before .before .before .before .before .loop) .b) ((c .before .before .before .before .before .before .before .before .before .before .head-at) .result) ((c .before .before .before .before .before .before .before .before .before .before .head-at) .ensures (not-false _ ((c .before .before .before .before .before .before .before .before .if3) .left))) ((c .before .before .before .before .before .before .fill) .result) _ ((c .before .before .before .before .before .before .fill) .ensures) ((c .before .before .before .before .before .before .before .before .before .before .before .before .before .before .before .before .loop) .inv .0 (stands ((c .before .before .before .before .before .before .before .before .before .before .before .before .before .before .before .before .before .before .before .before .before .before .before .before .before .before .before .args) .text .now) ((c .before .before .before .before .before .before .before .before .before .before .before .before .before .before .before .before .before .before .before .before .before .before .before .before .before .before .before .args) .records .now) ((c .before .before .before .before .before .before .before .before .before .before .before .before .before .before .before .before .before .before .before .before .before .before .before .before .before .before .before .args) .reals .now) ((c .before .before .before .before .before .before .before .before .before .before .before .before .before .before .before .before .before .before .before .before .before .before .before .before .before .before .before .args) .index .now) ((c .before .before .before .before .before .before .before .before .before .before .before .before .before .before .before .before .before .before .before .before .before .before .before .before .before .before .before .args) .settings) ((c .before .before .before .before .before .before .before .before .before .before .before .before .before .before .before .before .before .before .before .before .before .before .before .before .before .before .before .args) .s) I (sym ((c .before .before .before .before .before .before .before .before .before .before .before .before .before .before .before .before .before .before .before .before .before .before .is-idle) .ensures) ∙ not-false _ ((c .before .before .before .before .before .before .before .before .before .before .before .before .before .before .before .before .before .before .before .before .before .if1) .left)) _ ((c .before .before .before .before .before .before .before .before .before .before .before .before .before .before .before .before .before .wide) .ensures ∙ (c .before .before .before .before .before .before .before .before .before .before .before .before .before .before .before .before .before .before .narrow) .ensures ∙ ap clipped ((c .before .before .before .before .before .before .before .before .before .before .before .before .before .before .before .before .before .before .before .line-of) .ensures))) .inv) ((c .before .if4) .taken), omega (arith, whole-further ((c .before .before .before .before .before .before .before .before .before .before .before .before .before .before .before .before .before .before .before .before .before .before .before .before .before .before .before .args) .text .now) ((c .before .before .before .before .before .before .before .before .before .before .before .before .before .before .before .before .loop) .records) ((c .before .before .before .before .before .before .before .before .before .before .before .before .before .before .before .before .loop) .reals) ((c .before .before .before .before .before .before .before .before .before .before .before .before .before .before .before .before .loop) .index) ((c .before .before .before .before .before .before .before .before .before .before .before .before .before .before .before .before .before .before .before .before .before .before .before .before .before .before .before .args) .settings) ((c .before .before .before .before .before .before .before .before .before .before .before .before .before .before .before .before .loop) .b) ((c .before .before .before .before .before .before .before .before .before .before .head-at) .result) ((c .before .before .before .before .before .before .before .before .before .before .head-at) .ensures (not-false _ ((c .before .before .before .before .before .before .before .before .if3) .left))) ((c .before .before .before .before .before .before .fill) .result) _ ((c .before .before .before .before .before .before .fill) .ensures), (c .before .before .before .before .before .before .before .before .before .before .before .before .before .before .before .before .loop) .inv .2))
+returns-3 c =
+    let a = c .before .before .before .before .before .before .before .before .before .before .before .before .before .before .before .before .before .before .before .before .before .before .before .before .before .before .args in
+    let at-is-idle = c .before .before .before .before .before .before .before .before .before .before .before .before .before .before .before .before .before .before .before .before .before .is-idle in
+    let at-if1 = c .before .before .before .before .before .before .before .before .before .before .before .before .before .before .before .before .before .before .before .before .if1 in
+    let at-line-of = c .before .before .before .before .before .before .before .before .before .before .before .before .before .before .before .before .before .before .line-of in
+    let at-narrow = c .before .before .before .before .before .before .before .before .before .before .before .before .before .before .before .before .before .narrow in
+    let at-wide = c .before .before .before .before .before .before .before .before .before .before .before .before .before .before .before .before .wide in
+    let at-loop = c .before .before .before .before .before .before .before .before .before .before .before .before .before .before .before .loop in
+    let p = c .before .before .before .before .before in
+    let at-if4 = c .before .if4 in
+    let at-at-real = c .at-real in
+    (λ I. subst (Inv (text p) (records p) (stored p) (index p) (settings p)) (sym (at-at-real .ensures)) (stops-inside (text p) (records p) (reals p) (index p) (settings p) (from p) (head p) (begins p) (filled p) (stored p) (fills p) (at-loop .inv .0 (stands (a .text .now) (a .records .now) (a .reals .now) (a .index .now) (a .settings) (a .s) I (sym (at-is-idle .ensures) ∙ not-false _ (at-if1 .left)) _ (at-wide .ensures ∙ at-narrow .ensures ∙ ap clipped (at-line-of .ensures))) .inv) (at-if4 .taken)), omega (arith, ap (λ (z : State). z .at) (at-at-real .ensures), further p, at-loop .inv .2))
 
 narrow-requires-2 : tie.Need-narrow-requires-2 Inv-loop μ-loop
 narrow-requires-2 c κs = search needs
@@ -82,17 +161,32 @@ narrow-requires-2 c κs = search needs
 enter-row-requires : tie.Need-enter-row-requires Inv-loop μ-loop
 enter-row-requires c κs = search needs
 
-add-t34 : tie.Need-add-t34 Inv-loop μ-loop
-add-t34 c = omega (arith, (c .before .before .before .before .before .before .before .before .before .before .before .before .before .before .before .before .before .before .before .before .before .if2) .taken, (c .before .before .before .before .before .before .before .before .before .before .before .before .before .before .before .before .before .before .before .before .before .before .before .struct-known) .given, (c .before .before .before .before .before .before .before .before .before .before .before .before .before .before .before .before .before .before .before .before .before .before .struct-known2) .given)
+add-t31 : tie.Need-add-t31 Inv-loop μ-loop
+add-t31 c =
+    let at-struct-known = c .before .before .before .before .before .before .before .before .before .before .before .before .before .before .before .before .before .before .before .before .before .before .struct-known in
+    let at-struct-known2 = c .before .before .before .before .before .before .before .before .before .before .before .before .before .before .before .before .before .before .before .before .before .struct-known2 in
+    let at-if2 = c .before .before .before .before .before .before .before .before .before .before .before .before .before .before .before .before .before .before .before .before .if2 in
+    omega (arith, at-if2 .taken, at-struct-known .given, at-struct-known2 .given)
 
 sum-requires : tie.Need-sum-requires Inv-loop μ-loop
 sum-requires c κs = search needs
 
 loop-less : tie.Need-loop-less Inv-loop μ-loop
-loop-less c = omega (arith, whole-further ((c .before .before .before .before .before .before .before .before .before .before .before .before .before .before .before .before .before .before .before .before .before .before .before .before .before .before .before .before .before .before .before .before .before .before .before .before .args) .text .now) ((c .before .before .before .before .before .before .before .before .before .before .before .before .before .before .before .before .before .before .before .before .before .before .before .before .before .loop) .records) ((c .before .before .before .before .before .before .before .before .before .before .before .before .before .before .before .before .before .before .before .before .before .before .before .before .before .loop) .reals) ((c .before .before .before .before .before .before .before .before .before .before .before .before .before .before .before .before .before .before .before .before .before .before .before .before .before .loop) .index) ((c .before .before .before .before .before .before .before .before .before .before .before .before .before .before .before .before .before .before .before .before .before .before .before .before .before .before .before .before .before .before .before .before .before .before .before .before .args) .settings) ((c .before .before .before .before .before .before .before .before .before .before .before .before .before .before .before .before .before .before .before .before .before .before .before .before .before .loop) .b) ((c .before .before .before .before .before .before .before .before .before .before .before .before .before .before .before .before .before .before .before .head-at) .result) ((c .before .before .before .before .before .before .before .before .before .before .before .before .before .before .before .before .before .before .before .head-at) .ensures (not-false _ ((c .before .before .before .before .before .before .before .before .before .before .before .before .before .before .before .before .before .if3) .left))) ((c .before .before .before .before .before .before .before .before .before .before .before .before .before .before .before .fill) .result) _ ((c .before .before .before .before .before .before .before .before .before .before .before .before .before .before .before .fill) .ensures), whole-within ((c .before .before .before .before .before .before .before .before .before .before .before .before .before .before .before .before .before .before .before .before .before .before .before .before .before .before .before .before .before .before .before .before .before .before .before .before .args) .text .now) ((c .before .before .before .before .before .before .before .before .before .before .before .before .before .before .before .before .before .before .before .before .before .before .before .before .before .loop) .records) ((c .before .before .before .before .before .before .before .before .before .before .before .before .before .before .before .before .before .before .before .before .before .before .before .before .before .loop) .reals) ((c .before .before .before .before .before .before .before .before .before .before .before .before .before .before .before .before .before .before .before .before .before .before .before .before .before .loop) .index) ((c .before .before .before .before .before .before .before .before .before .before .before .before .before .before .before .before .before .before .before .before .before .before .before .before .before .before .before .before .before .before .before .before .before .before .before .before .args) .settings) ((c .before .before .before .before .before .before .before .before .before .before .before .before .before .before .before .before .before .before .before .before .before .before .before .before .before .loop) .b) ((c .before .before .before .before .before .before .before .before .before .before .before .before .before .before .before .before .before .before .before .head-at) .result) ((c .before .before .before .before .before .before .before .before .before .before .before .before .before .before .before .before .before .before .before .head-at) .ensures (not-false _ ((c .before .before .before .before .before .before .before .before .before .before .before .before .before .before .before .before .before .if3) .left))) ((c .before .before .before .before .before .before .before .before .before .before .before .before .before .before .before .fill) .result) _ ((c .before .before .before .before .before .before .before .before .before .before .before .before .before .before .before .fill) .ensures))
+loop-less c =
+    let start = c .before .before .before .before .before .before .before .before .before .before .before .before .before .before in
+    omega (arith, further start, within start)
 
 loop-again : tie.Need-loop-again Inv-loop μ-loop
-loop-again c = (λ S. record { inv = goes-whole ((c .before .before .before .before .before .before .before .before .before .before .before .before .before .before .before .before .before .before .before .before .before .before .before .before .before .before .before .before .before .before .before .before .before .before .before .before .args) .text .now) ((c .before .before .before .before .before .before .before .before .before .before .before .before .before .before .before .before .before .before .before .before .before .before .before .before .before .loop) .records) ((c .before .before .before .before .before .before .before .before .before .before .before .before .before .before .before .before .before .before .before .before .before .before .before .before .before .loop) .reals) ((c .before .before .before .before .before .before .before .before .before .before .before .before .before .before .before .before .before .before .before .before .before .before .before .before .before .loop) .index) ((c .before .before .before .before .before .before .before .before .before .before .before .before .before .before .before .before .before .before .before .before .before .before .before .before .before .before .before .before .before .before .before .before .before .before .before .before .args) .settings) ((c .before .before .before .before .before .before .before .before .before .before .before .before .before .before .before .before .before .before .before .before .before .before .before .before .before .loop) .b) ((c .before .before .before .before .before .before .before .before .before .before .before .before .before .before .before .before .before .before .before .head-at) .result) ((c .before .before .before .before .before .before .before .before .before .before .before .before .before .before .before .before .before .before .before .head-at) .ensures (not-false _ ((c .before .before .before .before .before .before .before .before .before .before .before .before .before .before .before .before .before .if3) .left))) ((c .before .before .before .before .before .before .before .before .before .before .before .before .before .before .before .fill) .result) _ ((c .before .before .before .before .before .before .before .before .before .before .before .before .before .before .before .fill) .ensures) ((c .before .before .before .before .before .before .before .before .before .before .before .before .before .before .before .before .before .before .before .before .before .before .before .before .before .loop) .inv .0 S .inv) ((c .before .before .before .before .before .before .before .before .before .before .before .before .before .before .before .before .before .before .before .before .before .before .before .before .before .loop) .inv .0 S .line-is) ((c .before .before .before .before .before .before .before .before .before .before .before .before .before .before .before .before .before .before .before .before .before .before .if2) .taken) (omega (arith, (c .before .before .before .before .before .before .before .before .before .before .if4) .left)) _ _ _ _ _ ((c .before .before .before .before .before .before .before .narrow2) .ensures) ((c .before .before .before .before .before .before .enter-row) .ensures .0) ((c .before .before .before .before .before .before .enter-row) .ensures .1 .0) ((c .before .before .before .before .before .before .enter-row) .ensures .1 .1) ((c .before .before .before .before .before .before .enter-row) .kept .1 .0) ((c .before .before .before .before .before .before .enter-row) .kept .1 .1 .0) ((c .sum) .ensures); line-is = line-kept ((c .before .before .before .before .before .before .before .before .before .before .before .before .before .before .before .before .before .before .before .before .before .before .before .before .before .before .before .before .before .before .before .before .before .before .before .before .args) .text .now) ((c .before .before .before .before .before .before .before .before .before .before .before .before .before .before .before .before .before .before .before .before .before .before .before .before .before .loop) .records) ((c .before .before .before .before .before .before .before .before .before .before .before .before .before .before .before .before .before .before .before .before .before .before .before .before .before .loop) .reals) ((c .before .before .before .before .before .before .before .before .before .before .before .before .before .before .before .before .before .before .before .before .before .before .before .before .before .loop) .index) ((c .before .before .before .before .before .before .before .before .before .before .before .before .before .before .before .before .before .before .before .before .before .before .before .before .before .before .before .before .before .before .before .before .before .before .before .before .args) .settings) ((c .before .before .before .before .before .before .before .before .before .before .before .before .before .before .before .before .before .before .before .before .before .before .before .before .before .loop) .b) ((c .before .before .before .before .before .before .before .before .before .before .before .before .before .before .before .before .before .before .before .head-at) .result) ((c .before .before .before .before .before .before .before .before .before .before .before .before .before .before .before .before .before .before .before .head-at) .ensures (not-false _ ((c .before .before .before .before .before .before .before .before .before .before .before .before .before .before .before .before .before .if3) .left))) ((c .before .before .before .before .before .before .before .before .before .before .before .before .before .before .before .fill) .result) _ ((c .before .before .before .before .before .before .before .before .before .before .before .before .before .before .before .fill) .ensures) ((c .before .before .before .before .before .before .before .before .before .before .before .before .before .before .before .before .before .before .before .before .before .before .before .before .before .loop) .inv .0 S .line-is) }, line-bound ((c .before .before .before .before .before .before .before .before .before .before .before .before .before .before .before .before .before .before .before .before .before .before .before .before .before .before .before .before .before .before .before .before .before .before .before .before .args) .text .now) ((c .before .before .before .before .before .before .before .before .before .before .before .before .before .before .before .before .before .before .before .before .before .before .before .before .before .loop) .records) ((c .before .before .before .before .before .before .before .before .before .before .before .before .before .before .before .before .before .before .before .before .before .before .before .before .before .loop) .reals) ((c .before .before .before .before .before .before .before .before .before .before .before .before .before .before .before .before .before .before .before .before .before .before .before .before .before .loop) .index) ((c .before .before .before .before .before .before .before .before .before .before .before .before .before .before .before .before .before .before .before .before .before .before .before .before .before .before .before .before .before .before .before .before .before .before .before .before .args) .settings) ((c .before .before .before .before .before .before .before .before .before .before .before .before .before .before .before .before .before .before .before .before .before .before .before .before .before .loop) .b) ((c .before .before .before .before .before .before .before .before .before .before .before .before .before .before .before .before .before .before .before .head-at) .result) ((c .before .before .before .before .before .before .before .before .before .before .before .before .before .before .before .before .before .before .before .head-at) .ensures (not-false _ ((c .before .before .before .before .before .before .before .before .before .before .before .before .before .before .before .before .before .if3) .left))) ((c .before .before .before .before .before .before .before .before .before .before .before .before .before .before .before .fill) .result) _ ((c .before .before .before .before .before .before .before .before .before .before .before .before .before .before .before .fill) .ensures) ((c .before .before .before .before .before .before .before .before .before .before .before .before .before .before .before .before .before .before .before .before .before .before .before .before .before .loop) .inv .1), omega (arith, whole-further ((c .before .before .before .before .before .before .before .before .before .before .before .before .before .before .before .before .before .before .before .before .before .before .before .before .before .before .before .before .before .before .before .before .before .before .before .before .args) .text .now) ((c .before .before .before .before .before .before .before .before .before .before .before .before .before .before .before .before .before .before .before .before .before .before .before .before .before .loop) .records) ((c .before .before .before .before .before .before .before .before .before .before .before .before .before .before .before .before .before .before .before .before .before .before .before .before .before .loop) .reals) ((c .before .before .before .before .before .before .before .before .before .before .before .before .before .before .before .before .before .before .before .before .before .before .before .before .before .loop) .index) ((c .before .before .before .before .before .before .before .before .before .before .before .before .before .before .before .before .before .before .before .before .before .before .before .before .before .before .before .before .before .before .before .before .before .before .before .before .args) .settings) ((c .before .before .before .before .before .before .before .before .before .before .before .before .before .before .before .before .before .before .before .before .before .before .before .before .before .loop) .b) ((c .before .before .before .before .before .before .before .before .before .before .before .before .before .before .before .before .before .before .before .head-at) .result) ((c .before .before .before .before .before .before .before .before .before .before .before .before .before .before .before .before .before .before .before .head-at) .ensures (not-false _ ((c .before .before .before .before .before .before .before .before .before .before .before .before .before .before .before .before .before .if3) .left))) ((c .before .before .before .before .before .before .before .before .before .before .before .before .before .before .before .fill) .result) _ ((c .before .before .before .before .before .before .before .before .before .before .before .before .before .before .before .fill) .ensures), (c .before .before .before .before .before .before .before .before .before .before .before .before .before .before .before .before .before .before .before .before .before .before .before .before .before .loop) .inv .2), (c .before .before .before .before .before .before .enter-row) .kept .1 .0 ∙ (c .before .before .before .before .before .before .before .before .before .before .before .before .before .before .before .before .before .before .before .before .before .before .before .before .before .loop) .inv .3, (c .before .before .before .before .before .before .before .before .before .before .before .before .before .before .before .fill) .kept .1 .0 ∙ (c .before .before .before .before .before .before .before .before .before .before .before .before .before .before .before .before .before .before .before .before .before .before .before .before .before .loop) .inv .4, (c .before .before .before .before .before .before .enter-row) .kept .1 .1 .0 ∙ (c .before .before .before .before .before .before .before .before .before .before .before .before .before .before .before .before .before .before .before .before .before .before .before .before .before .loop) .inv .5)
+loop-again c =
+    let at-loop = c .before .before .before .before .before .before .before .before .before .before .before .before .before .before .before .before .before .before .before .before .before .before .before .before .loop in
+    let at-if2 = c .before .before .before .before .before .before .before .before .before .before .before .before .before .before .before .before .before .before .before .before .before .if2 in
+    let at-fill = c .before .before .before .before .before .before .before .before .before .before .before .before .before .before .fill in
+    let p = c .before .before .before .before .before .before .before .before .before .before .before .before .before .before in
+    let at-if4 = c .before .before .before .before .before .before .before .before .before .before .if4 in
+    let at-narrow2 = c .before .before .before .before .before .before .before .narrow2 in
+    let at-enter-row = c .before .before .before .before .before .before .enter-row in
+    let at-sum = c .sum in
+    (λ S. record { inv = goes-whole (text p) (records p) (reals p) (index p) (settings p) (from p) (head p) (begins p) (filled p) (stored p) (fills p) (at-loop .inv .0 S .inv) (at-loop .inv .0 S .line-is) (at-if2 .taken) (omega (arith, at-if4 .left)) _ _ _ _ _ (at-narrow2 .ensures) (at-enter-row .ensures .0) (at-enter-row .ensures .1 .0) (at-enter-row .ensures .1 .1) (at-enter-row .kept .1 .0) (at-enter-row .kept .1 .1 .0) (at-sum .ensures); line-is = line-kept (text p) (records p) (reals p) (index p) (settings p) (from p) (head p) (begins p) (filled p) (stored p) (fills p) (at-loop .inv .0 S .line-is) }, line-bound (text p) (records p) (reals p) (index p) (settings p) (from p) (head p) (begins p) (filled p) (stored p) (fills p) (at-loop .inv .1), omega (arith, further p, at-loop .inv .2), at-enter-row .kept .1 .0 ∙ at-loop .inv .3, at-fill .kept .1 .0 ∙ at-loop .inv .4, at-enter-row .kept .1 .1 .0 ∙ at-loop .inv .5)
 
 between-requires-2 : tie.Need-between-requires-2 Inv-loop μ-loop
 between-requires-2 c κs = search needs
@@ -107,7 +201,16 @@ same-length-9 : tie.Need-same-length-9 Inv-loop μ-loop
 same-length-9 c = (c .before .before .before .before .loop) .inv .5
 
 returns-4 : tie.Need-returns-4 Inv-loop μ-loop
-returns-4 c = (λ I. subst (Inv ((c .before .before .before .before .before .before .before .before .before .before .before .before .before .before .before .args) .text .now) ((c .before .before .before .before .loop) .records) ((c .before .before .before .before .loop) .reals) ((c .before .before .before .before .loop) .index) ((c .before .before .before .before .before .before .before .before .before .before .before .before .before .before .before .args) .settings)) (sym ((c .between2) .ensures)) ((c .before .before .before .before .loop) .inv .0 (stands ((c .before .before .before .before .before .before .before .before .before .before .before .before .before .before .before .args) .text .now) ((c .before .before .before .before .before .before .before .before .before .before .before .before .before .before .before .args) .records .now) ((c .before .before .before .before .before .before .before .before .before .before .before .before .before .before .before .args) .reals .now) ((c .before .before .before .before .before .before .before .before .before .before .before .before .before .before .before .args) .index .now) ((c .before .before .before .before .before .before .before .before .before .before .before .before .before .before .before .args) .settings) ((c .before .before .before .before .before .before .before .before .before .before .before .before .before .before .before .args) .s) I (sym ((c .before .before .before .before .before .before .before .before .before .before .is-idle) .ensures) ∙ not-false _ ((c .before .before .before .before .before .before .before .before .before .if1) .left)) _ ((c .before .before .before .before .before .wide) .ensures ∙ (c .before .before .before .before .before .before .narrow) .ensures ∙ ap clipped ((c .before .before .before .before .before .before .before .line-of) .ensures))) .inv), omega (arith, ap (λ (z : State). z .at) ((c .between2) .ensures), (c .before .before .before .before .loop) .inv .2))
+returns-4 c =
+    let a = c .before .before .before .before .before .before .before .before .before .before .before .before .before .before .before .args in
+    let at-is-idle = c .before .before .before .before .before .before .before .before .before .before .is-idle in
+    let at-if1 = c .before .before .before .before .before .before .before .before .before .if1 in
+    let at-line-of = c .before .before .before .before .before .before .before .line-of in
+    let at-narrow = c .before .before .before .before .before .before .narrow in
+    let at-wide = c .before .before .before .before .before .wide in
+    let at-loop = c .before .before .before .before .loop in
+    let at-between2 = c .between2 in
+    (λ I. subst (Inv (a .text .now) (at-loop .records) (at-loop .reals) (at-loop .index) (a .settings)) (sym (at-between2 .ensures)) (at-loop .inv .0 (stands (a .text .now) (a .records .now) (a .reals .now) (a .index .now) (a .settings) (a .s) I (sym (at-is-idle .ensures) ∙ not-false _ (at-if1 .left)) _ (at-wide .ensures ∙ at-narrow .ensures ∙ ap clipped (at-line-of .ensures))) .inv), omega (arith, ap (λ (z : State). z .at) (at-between2 .ensures), at-loop .inv .2))
 
 pub statements-spec : {M : Type 1} → statement M
 statements-spec =
@@ -128,14 +231,14 @@ statements-spec =
     same-length-3
     returns-2
     fill-requires
-    sub-t27
+    at-real-requires
     same-length-4
     same-length-5
     same-length-6
     returns-3
     narrow-requires-2
     enter-row-requires
-    add-t34
+    add-t31
     sum-requires
     loop-less
     loop-again

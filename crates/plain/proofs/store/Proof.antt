@@ -40,16 +40,30 @@ returns-3 : tie.Need-returns-3
 returns-3 c = (not-good ((c .no-real2) .ensures), λ h. refl)
 
 mul-reals : tie.Need-mul-reals
-mul-reals c = omega (arith, leb-false (length ((c .before .before .before .before .before .before .before .before .before .args) .reals .now)) ((c .before .before .before .before .before .before .before .before .before .args) .used) (or-false-right (leb ((c .before .before .before .before .before .before .before .before .before .args) .room) ((c .before .before .before .before .before .before .before .before .before .args) .used)) (leb (length ((c .before .before .before .before .before .before .before .before .before .args) .reals .now)) ((c .before .before .before .before .before .before .before .before .before .args) .used)) ((c .if3) .left)), (c .before .before .before .before .before .before .before .before .before) .good .1 .0)
+mul-reals c =
+    let a = c .before .before .before .before .before .before .before .before .before .args in
+    let start = c .before .before .before .before .before .before .before .before .before in
+    let at-if3 = c .if3 in
+    omega (arith, leb-false (length (a .reals .now)) (a .used) (or-false-right (leb (a .room) (a .used)) (leb (length (a .reals .now)) (a .used)) (at-if3 .left)), start .good .1 .0)
 
 slice-write-reals : tie.Need-slice-write-reals
-slice-write-reals c = leb-false (length ((c .before .before .before .before .before .before .before .before .before .args) .reals .now)) ((c .before .before .before .before .before .before .before .before .before .args) .used) (or-false-right (leb ((c .before .before .before .before .before .before .before .before .before .args) .room) ((c .before .before .before .before .before .before .before .before .before .args) .used)) (leb (length ((c .before .before .before .before .before .before .before .before .before .args) .reals .now)) ((c .before .before .before .before .before .before .before .before .before .args) .used)) ((c .if3) .left))
+slice-write-reals c =
+    let a = c .before .before .before .before .before .before .before .before .before .args in
+    let at-if3 = c .if3 in
+    leb-false (length (a .reals .now)) (a .used) (or-false-right (leb (a .room) (a .used)) (leb (length (a .reals .now)) (a .used)) (at-if3 .left))
 
 same-length-3 : tie.Need-same-length-3
 same-length-3 c = search needs
 
 returns-4 : tie.Need-returns-4
-returns-4 c = (λ h. stores ((c .before .before .before .before .before .before .before .before .before .args) .text .now) ((c .before .before .before .before .before .before .before .before .before .args) .reals .now) ((c .before .before .before .before .before .before .before .before .before .args) .room) ((c .before .before .before .before .before .before .before .before .before .args) .d) ((c .before .before .before .before .before .before .before .before .before .args) .left) ((c .before .before .before .before .before .before .before .before .before .args) .used) ((c .before .before .before .before .before .before .before .before .before .args) .at) ((c .before .before .before .before .before .before .real) .result) ((c .before .before .before .before .before .before .real) .ensures (not-false _ ((c .before .before .before .before .if1) .left))) ((c .before .before .breaks) .ensures) ((c .before .if2) .left) (leb-false ((c .before .before .before .before .before .before .before .before .before .args) .room) ((c .before .before .before .before .before .before .before .before .before .args) .used) (or-false-left (leb ((c .before .before .before .before .before .before .before .before .before .args) .room) ((c .before .before .before .before .before .before .before .before .before .args) .used)) (leb (length ((c .before .before .before .before .before .before .before .before .before .args) .reals .now)) ((c .before .before .before .before .before .before .before .before .before .args) .used)) ((c .if3) .left))) (leb-false (length ((c .before .before .before .before .before .before .before .before .before .args) .reals .now)) ((c .before .before .before .before .before .before .before .before .before .args) .used) (or-false-right (leb ((c .before .before .before .before .before .before .before .before .before .args) .room) ((c .before .before .before .before .before .before .before .before .before .args) .used)) (leb (length ((c .before .before .before .before .before .before .before .before .before .args) .reals .now)) ((c .before .before .before .before .before .before .before .before .before .args) .used)) ((c .if3) .left))), λ h. absurd (false≢true (sym h ∙ not-false _ ((c .before .before .before .before .if1) .left))))
+returns-4 c =
+    let a = c .before .before .before .before .before .before .before .before .before .args in
+    let at-real = c .before .before .before .before .before .before .real in
+    let at-if1 = c .before .before .before .before .if1 in
+    let at-breaks = c .before .before .breaks in
+    let at-if2 = c .before .if2 in
+    let at-if3 = c .if3 in
+    (λ h. stores (a .text .now) (a .reals .now) (a .room) (a .d) (a .left) (a .used) (a .at) (at-real .result) (at-real .ensures (not-false _ (at-if1 .left))) (at-breaks .ensures) (at-if2 .left) (leb-false (a .room) (a .used) (or-false-left (leb (a .room) (a .used)) (leb (length (a .reals .now)) (a .used)) (at-if3 .left))) (leb-false (length (a .reals .now)) (a .used) (or-false-right (leb (a .room) (a .used)) (leb (length (a .reals .now)) (a .used)) (at-if3 .left))), λ h. absurd (false≢true (sym h ∙ not-false _ (at-if1 .left))))
 
 pub store-spec : {M : Type 1} → statement M
 store-spec =

@@ -33,7 +33,11 @@ wide-requires : tie.Need-wide-requires
 wide-requires c κs = search needs
 
 sub-t14 : tie.Need-sub-t14
-sub-t14 c = omega (arith, (c .wide) .ensures, digit-low _ (sym ((c .before .before .before .before .is-digit) .ensures) ∙ (c .before .before .before .if2) .taken))
+sub-t14 c =
+    let at-is-digit = c .before .before .before .before .is-digit in
+    let at-if2 = c .before .before .before .if2 in
+    let at-wide = c .wide in
+    omega (arith, at-wide .ensures, digit-low _ (sym (at-is-digit .ensures) ∙ at-if2 .taken))
 
 add-t15 : tie.Need-add-t15
 add-t15 c = search needs
@@ -42,10 +46,24 @@ line-ends-requires : tie.Need-line-ends-requires
 line-ends-requires c κs = search needs
 
 add-t17 : tie.Need-add-t17
-add-t17 c = omega (arith, (c .before .before .before .before .before .before .before .before .before .skip) .ensures .1, (c .before .line-ends) .ensures, line-most ((c .before .before .before .before .before .before .before .before .before .before .before .args) .text .now) ((c .before .before .before .before .before .before .before .before .before .skip) .result .place), line-most ((c .before .before .before .before .before .before .before .before .before .before .before .args) .text .now) ((c .before .before .before .before .before .before .before .before .before .skip) .result .place + 1 + 1))
+add-t17 c =
+    let a = c .before .before .before .before .before .before .before .before .before .before .before .args in
+    let at-skip = c .before .before .before .before .before .before .before .before .before .skip in
+    let at-line-ends = c .before .line-ends in
+    omega (arith, at-skip .ensures .1, at-line-ends .ensures, line-most (a .text .now) (at-skip .result .place), line-most (a .text .now) (at-skip .result .place + 1 + 1))
 
 returns-2 : tie.Need-returns-2
-returns-2 c = λ h. digit-passes ((c .before .before .before .before .before .before .before .before .before .before .before .args) .text .now) ((c .before .before .before .before .before .before .before .before .before .before .before .args) .at) _ ((c .before .before .before .before .before .before .before .before .before .skip) .ensures .0) ((c .before .before .before .before .before .before .before .before .if1) .left) (sym ((c .before .before .before .before .before .before .is-digit) .ensures) ∙ (c .before .before .before .before .before .if2) .taken) (sym ((c .before .before .before .before .ends-word) .ensures) ∙ (c .before .before .before .if3) .taken) _ _ _ ((c .before .before .before .before .before .before .before .before .before .skip) .ensures .1) ((c .before .line-ends) .ensures) (omega (arith, (c .before .before .wide) .ensures))
+returns-2 c =
+    let a = c .before .before .before .before .before .before .before .before .before .before .before .args in
+    let at-skip = c .before .before .before .before .before .before .before .before .before .skip in
+    let at-if1 = c .before .before .before .before .before .before .before .before .if1 in
+    let at-is-digit = c .before .before .before .before .before .before .is-digit in
+    let at-if2 = c .before .before .before .before .before .if2 in
+    let at-ends-word = c .before .before .before .before .ends-word in
+    let at-if3 = c .before .before .before .if3 in
+    let at-wide = c .before .before .wide in
+    let at-line-ends = c .before .line-ends in
+    λ h. digit-passes (a .text .now) (a .at) _ (at-skip .ensures .0) (at-if1 .left) (sym (at-is-digit .ensures) ∙ at-if2 .taken) (sym (at-ends-word .ensures) ∙ at-if3 .taken) _ _ _ (at-skip .ensures .1) (at-line-ends .ensures) (omega (arith, at-wide .ensures))
 
 count-in-requires : tie.Need-count-in-requires
 count-in-requires c κs = search needs

@@ -28,7 +28,13 @@ returns : tie.Need-returns
 returns c = not-good ((c .no-count) .ensures)
 
 returns-2 : tie.Need-returns-2
-returns-2 c = long-passes ((c .before .before .before .before .before .before .before .args) .text .now) ((c .before .before .before .before .before .before .before .args) .at) ((c .before .before .before .before .before .word) .result) _ _ ((c .before .before .before .before .before .word) .ensures) ((c .before .before .before .before .part) .ensures) (sym (ap counted ((c .before .n) .given .1)) ∙ (c .before .before .before .count-of) .ensures)
+returns-2 c =
+    let a = c .before .before .before .before .before .before .before .args in
+    let at-word = c .before .before .before .before .before .word in
+    let at-part = c .before .before .before .before .part in
+    let at-count-of = c .before .before .before .count-of in
+    let at-n = c .before .n in
+    long-passes (a .text .now) (a .at) (at-word .result) _ _ (at-word .ensures) (at-part .ensures) (sym (ap counted (at-n .given .1)) ∙ at-count-of .ensures)
 
 pub count-in-spec : {M : Type 1} → statement M
 count-in-spec =

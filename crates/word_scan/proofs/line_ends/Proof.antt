@@ -14,10 +14,17 @@ ends-line-requires : tie.Need-ends-line-requires
 ends-line-requires c κs = search needs
 
 returns : tie.Need-returns
-returns c = line-step ((c .before .before .before .before .args) .text .now) ((c .before .before .before .before .args) .at) _ ((c .before .before .if1) .taken) ((c .ends-line) .ensures)
+returns c =
+    let a = c .before .before .before .before .args in
+    let at-if1 = c .before .before .if1 in
+    let at-ends-line = c .ends-line in
+    line-step (a .text .now) (a .at) _ (at-if1 .taken) (at-ends-line .ensures)
 
 returns-2 : tie.Need-returns-2
-returns-2 c = (omega arith ∙ line-end ((c .before .before .args) .text .now) ((c .before .before .args) .at) ((c .before .before .args) .at + 1) ((c .if1) .left) (omega (arith, (c .if1) .left)))
+returns-2 c =
+    let a = c .before .before .args in
+    let at-if1 = c .if1 in
+    (omega arith ∙ line-end (a .text .now) (a .at) (a .at + 1) (at-if1 .left) (omega (arith, at-if1 .left)))
 
 pub line-ends-spec : {M : Type 1} → statement M
 line-ends-spec =

@@ -35,10 +35,22 @@ line-ends-requires : tie.Need-line-ends-requires
 line-ends-requires c κs = search needs
 
 add-t10 : tie.Need-add-t10
-add-t10 c = omega (arith, (c .before .before .before .before .before .before .skip) .ensures .1, (c .before .line-ends) .ensures, line-most ((c .before .before .before .before .before .before .before .before .args) .text .now) ((c .before .before .before .before .before .before .skip) .result .place), line-most ((c .before .before .before .before .before .before .before .before .args) .text .now) ((c .before .before .before .before .before .numeral-from) .result .end + 1))
+add-t10 c =
+    let a = c .before .before .before .before .before .before .before .before .args in
+    let at-skip = c .before .before .before .before .before .before .skip in
+    let at-numeral-from = c .before .before .before .before .before .numeral-from in
+    let at-line-ends = c .before .line-ends in
+    omega (arith, at-skip .ensures .1, at-line-ends .ensures, line-most (a .text .now) (at-skip .result .place), line-most (a .text .now) (at-numeral-from .result .end + 1))
 
 returns-3 : tie.Need-returns-3
-returns-3 c = λ h. real-passes ((c .before .before .before .before .before .before .before .before .args) .text .now) ((c .before .before .before .before .before .before .before .before .args) .at) _ ((c .before .before .before .before .before .before .skip) .ensures .0) ((c .before .before .before .before .before .numeral-from) .result) ((c .before .before .before .before .before .numeral-from) .ensures (not-false _ ((c .before .before .before .if1) .left))) ((c .before .before .if2) .left) _ _ ((c .before .before .before .before .before .before .skip) .ensures .1) ((c .before .line-ends) .ensures)
+returns-3 c =
+    let a = c .before .before .before .before .before .before .before .before .args in
+    let at-skip = c .before .before .before .before .before .before .skip in
+    let at-numeral-from = c .before .before .before .before .before .numeral-from in
+    let at-if1 = c .before .before .before .if1 in
+    let at-if2 = c .before .before .if2 in
+    let at-line-ends = c .before .line-ends in
+    λ h. real-passes (a .text .now) (a .at) _ (at-skip .ensures .0) (at-numeral-from .result) (at-numeral-from .ensures (not-false _ (at-if1 .left))) (at-if2 .left) _ _ (at-skip .ensures .1) (at-line-ends .ensures)
 
 pub real-spec : {M : Type 1} → statement M
 real-spec =

@@ -29,13 +29,24 @@ is-blank-requires : tie.Need-is-blank-requires Inv-loop μ-loop
 is-blank-requires c κs = search needs
 
 returns : tie.Need-returns Inv-loop μ-loop
-returns c = (sym (past-stop isBlank ((c .before .before .before .before .before .before .args) .text .now) ((c .before .before .before .before .loop) .i) 0 ((c .before .before .before .loop-test) .taken) (sym ((c .before .is-blank) .ensures) ∙ not-true _ ((c .if1) .taken))) ∙ (c .before .before .before .before .loop) .inv .0, (c .before .before .before .before .loop) .inv .1)
+returns c =
+    let a = c .before .before .before .before .before .before .args in
+    let at-loop = c .before .before .before .before .loop in
+    let at-loop-test = c .before .before .before .loop-test in
+    let at-is-blank = c .before .is-blank in
+    let at-if1 = c .if1 in
+    (sym (past-stop isBlank (a .text .now) (at-loop .i) 0 (at-loop-test .taken) (sym (at-is-blank .ensures) ∙ not-true _ (at-if1 .taken))) ∙ at-loop .inv .0, at-loop .inv .1)
 
 ends-line-requires : tie.Need-ends-line-requires Inv-loop μ-loop
 ends-line-requires c κs = search needs
 
 add-lines : tie.Need-add-lines Inv-loop μ-loop
-add-lines c = omega (arith, (c .before .before .before .before .before .loop) .inv .1, line-step ((c .before .before .before .before .before .before .before .args) .text .now) ((c .before .before .before .before .before .loop) .i) _ ((c .before .before .before .before .loop-test) .taken) ((c .ends-line) .ensures), line-most ((c .before .before .before .before .before .before .before .args) .text .now) ((c .before .before .before .before .before .loop) .i + 1))
+add-lines c =
+    let a = c .before .before .before .before .before .before .before .args in
+    let at-loop = c .before .before .before .before .before .loop in
+    let at-loop-test = c .before .before .before .before .loop-test in
+    let at-ends-line = c .ends-line in
+    omega (arith, at-loop .inv .1, line-step (a .text .now) (at-loop .i) _ (at-loop-test .taken) (at-ends-line .ensures), line-most (a .text .now) (at-loop .i + 1))
 
 add-i : tie.Need-add-i Inv-loop μ-loop
 add-i c = search needs
@@ -44,10 +55,21 @@ loop-less : tie.Need-loop-less Inv-loop μ-loop
 loop-less c = search needs
 
 loop-again : tie.Need-loop-again Inv-loop μ-loop
-loop-again c = (past-step isBlank ((c .before .before .before .before .before .before .before .args) .text .now) ((c .before .before .before .before .before .loop) .i) 0 ((c .before .before .before .before .loop-test) .taken) (sym ((c .before .before .is-blank) .ensures) ∙ not-false _ ((c .before .if1) .left)) ∙ (c .before .before .before .before .before .loop) .inv .0, omega (arith, (c .before .before .before .before .before .loop) .inv .1, line-step ((c .before .before .before .before .before .before .before .args) .text .now) ((c .before .before .before .before .before .loop) .i) _ ((c .before .before .before .before .loop-test) .taken) ((c .ends-line) .ensures)))
+loop-again c =
+    let a = c .before .before .before .before .before .before .before .args in
+    let at-loop = c .before .before .before .before .before .loop in
+    let at-loop-test = c .before .before .before .before .loop-test in
+    let at-is-blank = c .before .before .is-blank in
+    let at-if1 = c .before .if1 in
+    let at-ends-line = c .ends-line in
+    (past-step isBlank (a .text .now) (at-loop .i) 0 (at-loop-test .taken) (sym (at-is-blank .ensures) ∙ not-false _ (at-if1 .left)) ∙ at-loop .inv .0, omega (arith, at-loop .inv .1, line-step (a .text .now) (at-loop .i) _ (at-loop-test .taken) (at-ends-line .ensures)))
 
 returns-2 : tie.Need-returns-2 Inv-loop μ-loop
-returns-2 c = (sym (past-end isBlank ((c .before .before .before .args) .text .now) ((c .before .loop) .i) ((c .loop-test) .left)) ∙ (c .before .loop) .inv .0, (c .before .loop) .inv .1 ∙ line-end ((c .before .before .before .args) .text .now) ((c .before .loop) .i) (length ((c .before .before .before .args) .text .now)) ((c .loop-test) .left) (omega arith))
+returns-2 c =
+    let a = c .before .before .before .args in
+    let at-loop = c .before .loop in
+    let at-loop-test = c .loop-test in
+    (sym (past-end isBlank (a .text .now) (at-loop .i) (at-loop-test .left)) ∙ at-loop .inv .0, at-loop .inv .1 ∙ line-end (a .text .now) (at-loop .i) (length (a .text .now)) (at-loop-test .left) (omega arith))
 
 pub skip-spec : {M : Type 1} → statement M
 skip-spec =

@@ -14,7 +14,11 @@ good-end-requires : tie.Need-good-end-requires
 good-end-requires c κs = search needs
 
 sub-len : tie.Need-sub-len
-sub-len c = omega (arith, run-within ((c .before .before .before .args) .text .now) ((c .before .before .before .args) .at) _ _ ((c .before .skip) .ensures .0) ((c .good-end) .ensures))
+sub-len c =
+    let a = c .before .before .before .args in
+    let at-skip = c .before .skip in
+    let at-good-end = c .good-end in
+    omega (arith, run-within (a .text .now) (a .at) _ _ (at-skip .ensures .0) (at-good-end .ensures))
 
 no-word-requires : tie.Need-no-word-requires
 no-word-requires c κs = search needs
@@ -32,16 +36,34 @@ ends-word-requires : tie.Need-ends-word-requires
 ends-word-requires c κs = search needs
 
 add-t9 : tie.Need-add-t9
-add-t9 c = omega (arith, run-within ((c .before .before .before .before .before .before .before .args) .text .now) ((c .before .before .before .before .before .before .before .args) .at) _ _ ((c .before .before .before .before .before .skip) .ensures .0) ((c .before .before .before .before .good-end) .ensures))
+add-t9 c =
+    let a = c .before .before .before .before .before .before .before .args in
+    let at-skip = c .before .before .before .before .before .skip in
+    let at-good-end = c .before .before .before .before .good-end in
+    omega (arith, run-within (a .text .now) (a .at) _ _ (at-skip .ensures .0) (at-good-end .ensures))
 
 line-ends-requires : tie.Need-line-ends-requires
 line-ends-requires c κs = search needs
 
 add-t11 : tie.Need-add-t11
-add-t11 c = omega (arith, (c .before .before .before .before .before .before .before .skip) .ensures .1, (c .before .line-ends) .ensures, line-most ((c .before .before .before .before .before .before .before .before .before .args) .text .now) ((c .before .before .before .before .before .before .before .skip) .result .place), line-most ((c .before .before .before .before .before .before .before .before .before .args) .text .now) ((c .before .before .before .before .before .before .good-end) .result + 1))
+add-t11 c =
+    let a = c .before .before .before .before .before .before .before .before .before .args in
+    let at-skip = c .before .before .before .before .before .before .before .skip in
+    let at-good-end = c .before .before .before .before .before .before .good-end in
+    let at-line-ends = c .before .line-ends in
+    omega (arith, at-skip .ensures .1, at-line-ends .ensures, line-most (a .text .now) (at-skip .result .place), line-most (a .text .now) (at-good-end .result + 1))
 
 returns-3 : tie.Need-returns-3
-returns-3 c = λ h. word-passes ((c .before .before .before .before .before .before .before .before .before .args) .text .now) ((c .before .before .before .before .before .before .before .before .before .args) .at) _ _ ((c .before .before .before .before .before .before .before .skip) .ensures .0) ((c .before .before .before .before .before .before .good-end) .ensures) ((c .before .before .before .before .before .if1) .left) ((c .before .before .before .before .if2) .left) (sym ((c .before .before .before .ends-word) .ensures) ∙ (c .before .before .if3) .taken) _ _ ((c .before .before .before .before .before .before .before .skip) .ensures .1) ((c .before .line-ends) .ensures)
+returns-3 c =
+    let a = c .before .before .before .before .before .before .before .before .before .args in
+    let at-skip = c .before .before .before .before .before .before .before .skip in
+    let at-good-end = c .before .before .before .before .before .before .good-end in
+    let at-if1 = c .before .before .before .before .before .if1 in
+    let at-if2 = c .before .before .before .before .if2 in
+    let at-ends-word = c .before .before .before .ends-word in
+    let at-if3 = c .before .before .if3 in
+    let at-line-ends = c .before .line-ends in
+    λ h. word-passes (a .text .now) (a .at) _ _ (at-skip .ensures .0) (at-good-end .ensures) (at-if1 .left) (at-if2 .left) (sym (at-ends-word .ensures) ∙ at-if3 .taken) _ _ (at-skip .ensures .1) (at-line-ends .ensures)
 
 no-word-requires-3 : tie.Need-no-word-requires-3
 no-word-requires-3 c κs = search needs

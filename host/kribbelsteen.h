@@ -166,6 +166,7 @@ uint32_t kribbelsteen_read_both(uint32_t mode, const uint8_t *left, size_t left_
 /* The next line of a comparison of two saves by name. The key of a primitive is its name and nth: which definition of that name it
  * is, from 1. A key has a line if only one save has it, or if both have it and type, strings, bits of the reals, key of the alias
  * target or key of the modifier is not the same; all NaNs count as one. Lines come in the order of names by bytes, then of nth.
+ * Take this call where no more memory is to be lent, as each line takes a search through both saves, else kribbelsteen_next_ordered.
  *
  * Lend each table of records up to its last record, so that records_len is KRIBBELSTEEN_RECORD * primitives: all whole records that
  * are lent count. The tables may hold anything: name, strings and reals are what text and table have of those that a record states,
@@ -184,6 +185,40 @@ uint32_t kribbelsteen_next_line(const uint8_t *left, size_t left_len, const uint
                                 const double *left_reals, size_t left_reals_len, const uint8_t *right, size_t right_len,
                                 const uint32_t *right_records, size_t right_records_len, const double *right_reals,
                                 size_t right_reals_len, size_t line[4]);
+
+/* Puts the names of a save in order, for kribbelsteen_next_ordered.
+ *
+ * Lend the table of records as for kribbelsteen_next_line; an order of two entries for each record, so that order_len is
+ * 2 * primitives; and a scratch of one entry for each. The table of records may hold anything. As many records from the first on are
+ * put in order as the least of 1,024, records_len / 11, order_len / 2 and scratch_len is.
+ * Writes the order whole, whatever it held: in its first order_len / 2 entries the numbers of those records, by bytes of their names
+ * and where names are the same by number, then 0; from there on the nth of record 1, of record 2 and so on, 0 for those that are not
+ * put in order. The scratch is all 0 afterwards. There is no refusal, and nothing else is written. */
+void kribbelsteen_order_names(const uint8_t *text, size_t text_len, const uint32_t *records, size_t records_len, uint32_t *order,
+                              size_t order_len, uint32_t *scratch, size_t scratch_len);
+
+/* The next line of a comparison of two saves by name, along an order of each. Where the orders are those of kribbelsteen_order_names,
+ * with two entries and scratch for each record, and no save has over 1,024 records, the lines are those of kribbelsteen_next_line.
+ * Take this call wherever memory can be lent for the orders: all lines together take one walk along both.
+ *
+ * Lend the tables of records as for that call. The orders too may hold anything: the call goes along whatever numbers the first half
+ * of each holds, 0 among them, and takes nth from the rest, 0 where that has none. A number that no record has is one with no name.
+ * Of the next numbers of both orders the one with the lesser key goes first, and both go together where their keys are the same.
+ *
+ * line, before the call: how many entries of the left and of the right order are passed; any number past the first half stands behind
+ * all of them. The other four entries do not matter. So this shows all lines:
+ *
+ *     size_t line[6] = {0, 0, 0, 0, 0, 0};
+ *     while (kribbelsteen_next_ordered(.., line)) ..
+ *
+ * Returns 1 for a line and 0 where there are no more.
+ * line, after it: how many entries of each order are passed then; side, number, nth and state as for kribbelsteen_next_line. All 0
+ * where there are no more lines, so a further call begins again. Nothing else is written. */
+uint32_t kribbelsteen_next_ordered(const uint8_t *left, size_t left_len, const uint32_t *left_records, size_t left_records_len,
+                                   const double *left_reals, size_t left_reals_len, const uint32_t *left_order,
+                                   size_t left_order_len, const uint8_t *right, size_t right_len, const uint32_t *right_records,
+                                   size_t right_records_len, const double *right_reals, size_t right_reals_len,
+                                   const uint32_t *right_order, size_t right_order_len, size_t line[6]);
 
 /* Writes the tidy text of a scene: four lines for a primitive (modifier, type and name; strings; integers; reals, each of the last
  * three with its count first) and one for an alias, one space between two words, no comments. An output of text_len + 1 bytes is

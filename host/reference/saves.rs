@@ -79,6 +79,20 @@ impl<'s> Save<'s> {
             .collect()
     }
 
+    /// The numbers of the first records in the order of their keys, and the nth of each, in a table of so many entries with so much scratch.
+    pub fn order(self, entries: usize, scratch: usize) -> Vec<u32> {
+        let (keys, half) = (self.keys(), entries / 2);
+        let count = keys.len().min(scene::MOST_RECORDS).min(half).min(scratch);
+        let mut numbers: Vec<usize> = (1..=count).collect();
+        numbers.sort_by_key(|number| keys[number - 1]);
+        let mut order = vec![0; entries];
+        for (at, number) in numbers.into_iter().enumerate() {
+            order[at] = number as u32;
+            order[half + number - 1] = keys[number - 1].1 as u32;
+        }
+        order
+    }
+
     fn strings(self, place: usize, count: usize) -> Vec<&'s [u8]> {
         let mut at = place;
         let words = std::iter::from_fn(|| {

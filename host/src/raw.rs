@@ -2,7 +2,7 @@
 //! for callers that keep the numbers, and for comparisons.
 //!
 //! Each answer is filled beforehand with what the library never gives, so that an entry left out would show. A line is the caller's
-//! own: the call takes its key from it.
+//! own: the call takes its key or its cursors from it.
 
 extern "C" {
     fn kribbelsteen_read(
@@ -74,6 +74,35 @@ extern "C" {
         right_records_len: usize,
         right_reals: *const f64,
         right_reals_len: usize,
+        line: *mut usize,
+    ) -> u32;
+    fn kribbelsteen_order_names(
+        text: *const u8,
+        text_len: usize,
+        records: *const u32,
+        records_len: usize,
+        order: *mut u32,
+        order_len: usize,
+        scratch: *mut u32,
+        scratch_len: usize,
+    );
+    fn kribbelsteen_next_ordered(
+        left: *const u8,
+        left_len: usize,
+        left_records: *const u32,
+        left_records_len: usize,
+        left_reals: *const f64,
+        left_reals_len: usize,
+        left_order: *const u32,
+        left_order_len: usize,
+        right: *const u8,
+        right_len: usize,
+        right_records: *const u32,
+        right_records_len: usize,
+        right_reals: *const f64,
+        right_reals_len: usize,
+        right_order: *const u32,
+        right_order_len: usize,
         line: *mut usize,
     ) -> u32;
     fn kribbelsteen_write(
@@ -236,6 +265,64 @@ pub fn next_line(
             right_records.len(),
             right_reals.as_ptr(),
             right_reals.len(),
+            line.as_mut_ptr(),
+        )
+    }
+}
+
+/// Puts the names of a scene in order: the numbers of its records in the first half of the order, and which definition of its name
+/// each is in the rest. The scratch is zero afterwards.
+pub fn order_names(text: &[u8], records: &[u32], order: &mut [u32], scratch: &mut [u32]) {
+    // SAFETY: each pointer and length is that of a slice, and the borrows keep what is written apart.
+    unsafe {
+        kribbelsteen_order_names(
+            text.as_ptr(),
+            text.len(),
+            records.as_ptr(),
+            records.len(),
+            order.as_mut_ptr(),
+            order.len(),
+            scratch.as_mut_ptr(),
+            scratch.len(),
+        )
+    }
+}
+
+/// A text, its tables and an order of its names, as they are lent.
+#[derive(Clone, Copy, Debug)]
+pub struct Ordered<'s> {
+    /// The text.
+    pub text: &'s [u8],
+    /// Its records, up to the last one.
+    pub records: &'s [u32],
+    /// Its reals.
+    pub reals: &'s [f64],
+    /// What [`order_names`] gives in two entries for each record, or anything else.
+    pub order: &'s [u32],
+}
+
+/// The next line of a comparison along an order of each scene: 1, or 0 where there is none. The line's entries are left and right
+/// cursor, side, number, nth and state, all 0 at the end; the first two say from where to go on.
+pub fn next_ordered(left: Ordered, right: Ordered, line: &mut [usize; 6]) -> u32 {
+    // SAFETY: each pointer and length is that of a slice, and only the line, which has six entries, is written.
+    unsafe {
+        kribbelsteen_next_ordered(
+            left.text.as_ptr(),
+            left.text.len(),
+            left.records.as_ptr(),
+            left.records.len(),
+            left.reals.as_ptr(),
+            left.reals.len(),
+            left.order.as_ptr(),
+            left.order.len(),
+            right.text.as_ptr(),
+            right.text.len(),
+            right.records.as_ptr(),
+            right.records.len(),
+            right.reals.as_ptr(),
+            right.reals.len(),
+            right.order.as_ptr(),
+            right.order.len(),
             line.as_mut_ptr(),
         )
     }

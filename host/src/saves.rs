@@ -1,5 +1,6 @@
 //! Two saves of a scene, read and compared by name.
 
+use crate::raw::Ordered;
 use crate::{raw, Counts, Mode, Refusal, Scene};
 use std::error::Error;
 use std::fmt;
@@ -156,6 +157,9 @@ pub struct Line<'s> {
 /// Compares two saves by name: a line for each key that is not the same in both, in the order of names by bytes, then of
 /// definitions. A key is the same if type, strings, bits of the reals, and the keys of alias target and modifier are.
 ///
+/// The names of both are put in order first, in tables of its own: two numbers for each primitive. Where no more memory is to be
+/// taken, [`raw::next_line`] finds the same lines one by one, in a time that grows with the square of the number of primitives.
+///
 /// ```
 /// use kribbelsteen::{compare, Mode, Scene, State, RECORD};
 ///
@@ -168,15 +172,28 @@ pub struct Line<'s> {
 /// # Ok::<(), Box<dyn std::error::Error>>(())
 /// ```
 pub fn compare<'s>(left: Scene<'s>, right: Scene<'s>) -> Lines<'s> {
-    Lines { saves: Saves { left, right }, line: [0; 4], ended: false }
+    Lines { saves: Saves { left, right }, orders: [left, right].map(order), line: [0; 6], ended: false }
+}
+
+/// The order of a scene's names: two entries for each primitive.
+fn order(scene: Scene) -> Vec<u32> {
+    let primitives = scene.counts().primitives;
+    let (mut order, mut scratch) = (vec![0; 2 * primitives], vec![0; primitives]);
+    raw::order_names(scene.text, scene.records, &mut order, &mut scratch);
+    order
+}
+
+fn ordered<'s>(scene: Scene<'s>, order: &'s [u32]) -> Ordered<'s> {
+    Ordered { text: scene.text, records: scene.records, reals: scene.reals, order }
 }
 
 /// An iterator over what is not the same in two saves.
 #[derive(Clone, Debug)]
 pub struct Lines<'s> {
     saves: Saves<'s>,
-    line: [usize; 4],
-    /// The line of the end holds no key, and would start again.
+    orders: [Vec<u32>; 2],
+    line: [usize; 6],
+    /// The line of the end is all 0, and would start again.
     ended: bool,
 }
 
@@ -188,13 +205,13 @@ impl<'s> Iterator for Lines<'s> {
             return None;
         }
         let Saves { left, right } = self.saves;
-        let found =
-            raw::next_line(left.text, left.records, left.reals, right.text, right.records, right.reals, &mut self.line);
+        let [a, b] = &self.orders;
+        let found = raw::next_ordered(ordered(left, a), ordered(right, b), &mut self.line);
         self.ended = found == 0;
         if self.ended {
             return None;
         }
-        let [side, number, nth, state] = self.line;
+        let [_, _, side, number, nth, state] = self.line;
         let (side, state) = (Side::from_number(side), State::from_number(state));
         let scene = match side {
             Side::Left => left,

@@ -615,7 +615,51 @@ fn compare_reading_both(cases: &[scenes::Case; 2]) -> BothRead {
     BothRead { reason, answer, records, reals }
 }
 
-/// All lines one after the other, and the line after some keys; counts the lines by state, 0 for the end.
+/// Puts the names of a save in order both ways, compares all that comes of it, and gives the order.
+fn compare_order(save: Save, entries: usize, scratch: usize) -> Vec<u32> {
+    let filling = 0xdead_beef;
+    let (mut order, mut lent) = (Lent::new(entries, filling), Lent::new(scratch, filling));
+    raw::order_names(save.text, save.records, order.table(), lent.table());
+    let shown = || format!("{entries} entries and {scratch} for {:?}", save.records);
+    assert!(order.table() == save.order(entries, scratch), "order: {}", shown());
+    assert!(lent.table().iter().all(|&entry| entry == 0), "scratch: {}", shown());
+    assert!(order.margins_are(filling) && lent.margins_are(filling), "outside of both: {}", shown());
+    order.table().to_vec()
+}
+
+/// All lines along two orders, whatever these hold, from a line on. Each is of a number of its order and goes on behind it.
+fn walk(left: Save, right: Save, orders: &[Vec<u32>; 2], from: [usize; 6]) -> Vec<[usize; 6]> {
+    let [a, b] = [(left, &orders[0]), (right, &orders[1])].map(|(save, order)| raw::Ordered {
+        text: save.text,
+        records: save.records,
+        reals: save.reals,
+        order,
+    });
+    let halves = orders.each_ref().map(|order| order.len() / 2);
+    let mut lines = Vec::new();
+    let mut line = from;
+    loop {
+        let passed = [line[0], line[1]];
+        let found = raw::next_ordered(a, b, &mut line);
+        if found == 0 {
+            assert_eq!(line, [0; 6]);
+            return lines;
+        }
+        let [i, j, side, number, nth, state] = line;
+        assert!(found == 1 && matches!((side, state), (0, 1 | 3) | (1, 2)), "{found}, {line:?}");
+        let cursors = [i, j];
+        // The order of a number's side is passed up to it, and in no order is less passed than before
+        assert!(passed[side] < cursors[side] && cursors[side] <= halves[side], "from {passed:?} to {line:?}");
+        assert!(passed[1 - side] <= cursors[1 - side], "from {passed:?} to {line:?}");
+        assert_eq!(orders[side][cursors[side] - 1] as usize, number);
+        let nths = &orders[side][halves[side]..];
+        assert_eq!(number.checked_sub(1).and_then(|at| nths.get(at)).map_or(0, |&nth| nth as usize), nth);
+        lines.push(line);
+    }
+}
+
+/// All lines one after the other, by keys and along an order of each save, and the line after some keys; counts the lines by state, 0
+/// for the end.
 fn compare_lines(random: &mut Random, states: &mut Tally, left: Save, right: Save) {
     let expected = Comparison::new(left, right);
     let mut next = |mut line: [usize; 4]| {
@@ -627,13 +671,27 @@ fn compare_lines(random: &mut Random, states: &mut Tally, left: Save, right: Sav
         states.add(line[3] as u32);
         (found == 1).then_some(line)
     };
-    let mut lines = 0;
+    let mut lines = Vec::new();
     let mut line = next([0; 4]);
     while let Some(held) = line {
-        lines += 1;
+        lines.push(held);
         line = next(held);
     }
-    assert_eq!(lines, expected.len());
+    assert_eq!(lines.len(), expected.len());
+    let orders = [left, right].map(|save| {
+        let primitives = save.records.len() / RECORD;
+        compare_order(save, 2 * primitives, primitives + random.below(2))
+    });
+    let ordered = walk(left, right, &orders, [0; 6]);
+    let told = |[_, _, side, number, nth, state]: [usize; 6]| [side, number, nth, state];
+    assert!(ordered.iter().copied().map(told).eq(lines.iter().copied()), "{ordered:?} and {lines:?}");
+    // From a line's cursors on the later ones; what else the line holds is not looked at
+    if !ordered.is_empty() {
+        let passed = random.below(ordered.len());
+        let [i, j, ..] = ordered[passed];
+        let later = walk(left, right, &orders, [i, j, usize::MAX, 7, usize::MAX, random.below(5)]);
+        assert_eq!(later, ordered[passed + 1..]);
+    }
     let most = left.records.len().max(right.records.len()) / RECORD;
     for number in [random.below(most + 1), random.below(most + 1), most + 1, usize::MAX] {
         for side in [0, 1, 2, usize::MAX] {
@@ -712,6 +770,76 @@ fn large_saves_are_compared_alike() {
     lines.report([0, 1], 1);
     let refused = compare_reading_both(&[full(1_024), full(1_025)].map(with_most));
     assert_eq!((refused.reason, refused.answer), (6, [1, full(1_024).len(), 0, 0, 0, 0]));
+}
+
+/// A text of so many lights, with few names and few values.
+fn few_names(random: &mut Random, lights: usize) -> Vec<u8> {
+    let line =
+        |_| format!("void light {} 0 0 3 1 1 {}\n", random.pick(&["b", "a", "ab", "lamp"]), random.pick(&["1", "2"]));
+    (0..lights).map(line).collect::<String>().into_bytes()
+}
+
+#[test]
+fn saves_with_one_name_many_times_are_compared_alike() {
+    let mut random = random(14);
+    let mut lines = Tally::new("lines of names given many times (0 the end, then by state)");
+    for lights in [1, 2, 3, 30, 300] {
+        let cases = [lights, lights + random.below(9)].map(|lights| with_most(few_names(&mut random, lights)));
+        let BothRead { answer, records, reals, .. } = compare_reading_both(&cases);
+        let [left, right] = [(0, answer[2]), (1, answer[4])].map(|(side, primitives): (usize, usize)| Save {
+            text: &cases[side].text,
+            records: &records[side][..RECORD * primitives],
+            reals: &reals[side],
+        });
+        compare_lines(&mut random, &mut lines, left, right);
+        compare_lines(&mut random, &mut lines, right, left);
+    }
+    lines.report(0..=3, 1);
+}
+
+/// Orders in less and in more room than the records need, and over the most that are put in order.
+#[test]
+fn names_are_put_in_order_alike() {
+    let mut random = random(15);
+    for _ in 0..scene_count() / 20 {
+        let text = few_names(&mut random, 5);
+        let records = scenes::table(&mut random, text.len());
+        let save = Save { text: &text, records: &records, reals: &[] };
+        let most = records.len() / RECORD + 3;
+        compare_order(save, random.below(2 * most), random.below(most));
+    }
+    let text = few_names(&mut random, 5);
+    let records: Vec<u32> = (0..1_030).flat_map(|n| [0, 0, 0, n % 70, n % 3, 0, 0, 0, 0, 0, 0]).collect();
+    let save = Save { text: &text, records: &records, reals: &[] };
+    for entries in [2_046, 2_047, 2_048, 2_060, 2_061] {
+        compare_order(save, entries, 1_030);
+    }
+}
+
+/// Tables that are no order: the numbers of any records and of none, more than once or never, from any cursors on.
+#[test]
+fn lines_along_any_tables_end() {
+    let mut random = random(16);
+    let mut lines = 0;
+    for _ in 0..scene_count() / 4 {
+        let text = few_names(&mut random, 5);
+        let [a, b] = [(); 2].map(|()| limit_strings(scenes::table(&mut random, text.len())));
+        let [left, right] = [&a, &b].map(|records| Save { text: &text, records, reals: &[1.0, f64::NAN, -0.0] });
+        let orders = [(); 2].map(|()| -> Vec<u32> {
+            let any = |random: &mut Random| {
+                let (near, any) = (random.below(14) as u32, random.bits() as u32);
+                *random.pick(&[near, near, near, near, 0, 1, u32::MAX, any])
+            };
+            (0..random.below(30)).map(|_| any(&mut random)).collect()
+        });
+        let most: usize = orders.iter().map(|order| order.len() / 2).sum();
+        for from in [[0, 0], [random.below(20), random.below(20)], [usize::MAX, 0], [usize::MAX; 2]] {
+            let walked = walk(left, right, &orders, [from[0], from[1], 9, 9, 9, 9]).len();
+            assert!(walked <= most);
+            lines += walked;
+        }
+    }
+    say(&format!("lines along tables that are no order: {lines}, each of a number there"));
 }
 
 // ---- scenes written out

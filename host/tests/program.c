@@ -51,24 +51,34 @@ static void print_index(const char *scene, size_t entries) {
 
 static uint32_t later_records[ROOM * KRIBBELSTEEN_RECORD];
 static double later_reals[32];
+static uint32_t order[2 * ROOM], later_order[2 * ROOM], scratch[ROOM];
 
 static void print_changes(const char *left, const char *right) {
     static const char *const states[] = {"", "left", "right", "changed"};
     const uint8_t *texts[2] = {(const uint8_t *)left, (const uint8_t *)right};
-    size_t left_len = strlen(left), right_len = strlen(right), answer[6], line[4] = {0, 0, 0, 0}, name[2];
+    size_t left_len = strlen(left), right_len = strlen(right), answer[6], name[2];
+    size_t line[6] = {0, 0, 0, 0, 0, 0}, by_keys[4] = {0, 0, 0, 0};
     uint32_t reason = kribbelsteen_read_both(KRIBBELSTEEN_NEW, texts[0], left_len, records, ROOM * KRIBBELSTEEN_RECORD, reals, 32,
                                              texts[1], right_len, later_records, ROOM * KRIBBELSTEEN_RECORD, later_reals, 32, answer);
     if (reason != KRIBBELSTEEN_ACCEPTED) {
         printf("scene=%s refused=%u place=%zu\n", answer[0] == KRIBBELSTEEN_LEFT ? "left" : "right", (unsigned)reason, answer[1]);
         return;
     }
-    while (kribbelsteen_next_line(texts[0], left_len, records, answer[2] * KRIBBELSTEEN_RECORD, reals, answer[3], texts[1],
-                                  right_len, later_records, answer[4] * KRIBBELSTEEN_RECORD, later_reals, answer[5], line)) {
-        if (line[0] == KRIBBELSTEEN_LEFT)
-            kribbelsteen_name(texts[0], left_len, records, ROOM * KRIBBELSTEEN_RECORD, answer[2], line[1], name);
+    kribbelsteen_order_names(texts[0], left_len, records, answer[2] * KRIBBELSTEEN_RECORD, order, 2 * answer[2], scratch, ROOM);
+    kribbelsteen_order_names(texts[1], right_len, later_records, answer[4] * KRIBBELSTEEN_RECORD, later_order, 2 * answer[4], scratch,
+                             ROOM);
+    while (kribbelsteen_next_ordered(texts[0], left_len, records, answer[2] * KRIBBELSTEEN_RECORD, reals, answer[3], order,
+                                     2 * answer[2], texts[1], right_len, later_records, answer[4] * KRIBBELSTEEN_RECORD, later_reals,
+                                     answer[5], later_order, 2 * answer[4], line)) {
+        if (line[2] == KRIBBELSTEEN_LEFT)
+            kribbelsteen_name(texts[0], left_len, records, ROOM * KRIBBELSTEEN_RECORD, answer[2], line[3], name);
         else
-            kribbelsteen_name(texts[1], right_len, later_records, ROOM * KRIBBELSTEEN_RECORD, answer[4], line[1], name);
-        printf("name=%.*s nth=%zu state=%s\n", (int)name[1], (const char *)texts[line[0]] + name[0], line[2], states[line[3]]);
+            kribbelsteen_name(texts[1], right_len, later_records, ROOM * KRIBBELSTEEN_RECORD, answer[4], line[3], name);
+        printf("name=%.*s nth=%zu state=%s\n", (int)name[1], (const char *)texts[line[2]] + name[0], line[4], states[line[5]]);
+        kribbelsteen_next_line(texts[0], left_len, records, answer[2] * KRIBBELSTEEN_RECORD, reals, answer[3], texts[1], right_len,
+                               later_records, answer[4] * KRIBBELSTEEN_RECORD, later_reals, answer[5], by_keys);
+        if (memcmp(line + 2, by_keys, sizeof by_keys) != 0)
+            printf("another line by keys\n");
     }
 }
 

@@ -75,7 +75,7 @@ fn state_number(state: State) -> usize
 }
 
 // A line's values.
-fn values_of(place: Place, nth: usize, state: State) -> [usize; 4]
+pub fn values_of(place: Place, nth: usize, state: State) -> [usize; 4]
     ensures { λ r. ⌜ r ≡ valuesOf (Line place nth state) ⌝ }
 {
     let number = state_number(state);

@@ -1,13 +1,17 @@
 // The entry points for host programs, under C's calling convention: numbers, slices and small arrays, no precondition. Each is
-// the call of the same promise in `host_scenes`, `host_saves` or `host_rays`.
+// the call of the same promise in `host_scenes`, `host_saves`, `host_ordered`, `host_rays`, `ranks` or `root`.
 ghost use mathlib.Core.Path.{_≡_};
+ghost use lib.ListN.{length, replicate};
 ghost use Rattle.finish.specs.Question.{nameRefusal};
 ghost use Rattle.fresnel.specs.Fresnel.{fresnelOf};
 ghost use Rattle.hits.specs.Ring.{ringHit};
 ghost use Rattle.hits.specs.Sphere.{sphereHit};
+ghost use Rattle.host_ordered.specs.Host.{HostOrdered};
 ghost use Rattle.host_rays.specs.Host.{hitKind, hitValues, rayIn, reflectionKind, reflectionValues, ringIn, sphereIn};
 ghost use Rattle.host_saves.specs.Host.{HostLine, HostReadsBoth, HostWrites};
 ghost use Rattle.host_scenes.specs.Host.{HostReads, HostReadsIndexed, finishReason, finishValues, namePart, wordValues};
+ghost use Rattle.ordered.specs.Lines.{scene};
+ghost use Rattle.ranks.specs.Rank.{orderTable};
 ghost use Rattle.root.specs.Root.{rootOf};
 
 // Reads a scene: the reason or 0, and place, primitives, reals.
@@ -123,6 +127,49 @@ pub extern "C" fn kribbelsteen_next_line<'a>(
         right,
         right_records,
         right_reals,
+        line,
+    )
+}
+
+// Puts the names of a scene in order: the numbers of its records in a table's first half, and the nth of each in the rest.
+#[no_mangle]
+pub extern "C" fn kribbelsteen_order_names(
+    text: &[u8],
+    records: &[u32],
+    order: &mut [u32],
+    scratch: &mut [u32],
+)
+    ensures { λ _. ⌜ now (order .exit) ≡ orderTable (now (text .entry)) (now (records .entry)) (length (now (order .entry))) (length (now (scratch .entry))) ⌝ }
+    ensures { λ _. ⌜ now (scratch .exit) ≡ replicate (length (now (scratch .entry))) 0 ⌝ }
+{
+    ranks::order_names(text, records, order, scratch);
+}
+
+// The next line along an order of each scene, from the cursors held: 1 for a line and 0 for the end, and in place of what the array
+// holds the cursors to go on from, side, number, nth and state.
+#[no_mangle]
+pub extern "C" fn kribbelsteen_next_ordered(
+    left: &[u8],
+    left_records: &[u32],
+    left_reals: &[f64],
+    left_order: &[u32],
+    right: &[u8],
+    right_records: &[u32],
+    right_reals: &[f64],
+    right_order: &[u32],
+    line: &mut [usize; 6],
+) -> u32
+    ensures { λ r. ⌜ HostOrdered (scene (now (left .entry)) (now («left_records» .entry)) (now («left_reals» .entry)) (now («left_order» .entry))) (scene (now (right .entry)) (now («right_records» .entry)) (now («right_reals» .entry)) (now («right_order» .entry))) (now (line .entry)) r (now (line .exit)) ⌝ }
+{
+    host_ordered::tell_ordered(
+        left,
+        left_records,
+        left_reals,
+        left_order,
+        right,
+        right_records,
+        right_reals,
+        right_order,
         line,
     )
 }

@@ -17,7 +17,7 @@ use Rattle.index.specs.declared.Found.{Found}
 use Rattle.laws.specs.Bytes.{Bytes, bytes, part, same}
 use Rattle.laws.proofs.RunLaws.{run-length}
 use Rattle.laws.specs.Runs.{past, run}
-use Rattle.lexer.specs.Class.{isBlank, isOther}
+use Rattle.lexer.specs.Class.{isBlank, isInLine, isOther}
 use Rattle.lexer.specs.Word.{wordAt, wordBytes, wordEnd, wordFault}
 use Rattle.lexer.specs.declared.Word.{Word}
 use Rattle.numeral.specs.Count.{countOf}
@@ -43,7 +43,8 @@ use Rattle.statement.specs.declared.Step.{Step}
 use Rattle.statement.specs.declared.Opening.the-variants as opening
 use Rattle.statement.specs.declared.Phase.the-variants as is
 use Rattle.statement.specs.declared.Step.the-variants as to
-use Rattle.word_scan.specs.Passing.{Passes}
+use Rattle.word_scan.specs.Passing.{Passes, PassesComment}
+use Rattle.word_scan.specs.declared.Skipped.{Skipped}
 
 -- a word is all there
 pub word-length : (text : Bytes) (at : ℕ) → length (wordBytes text at) ≡ wordAt text at .len
@@ -62,6 +63,12 @@ module _ (text : Bytes) (T : List ℕ) (R : List Float) (X : List ℕ) (room : S
     taken : nextStep text T R X room s ≡ stepOf (s .phase) (wordBytes text (s .at)) room (countedIn behind (seen .looked)) seen
     unfolding nextStep wordStep
     taken = rw (ne-eqb (wordAt text (s .at) .len) 0 (λ e. absurd (omega arith)), o, eq-eqb (wordFault (wordBytes text (s .at))) 0 fine)
+
+  -- and of a comment, where a statement may begin
+  passed-over : (s : State) → 0 < wordAt text (s .at) .len → openingOf (s .phase) (getD text (wordAt text (s .at) .place) 0) ≡ opening.Comment
+      → nextStep text T R X room s ≡ to.Going (movedTo s (past isInLine text (wordAt text (s .at) .place) + 1))
+  unfolding nextStep
+  passed-over s some-bytes o = rw (ne-eqb (wordAt text (s .at) .len) 0 (λ e. absurd (omega arith)), o)
 
   goes-to : (s t : State) → Inv text T R X room s → nextStep text T R X room s ≡ to.Going t → Inv text T R X room t
   goes-to s t I e = ready text T R X room s I _ _ refl e .0
@@ -170,3 +177,9 @@ module _ (text : Bytes) (T : List ℕ) (R : List Float) (X : List ℕ) (room : S
         (taken (stateAt count used at (suc m) k is.Real d) (P .some-bytes) (P .fine) refl ∙ rw (v, b, lt-ltb used (room .reals) f)
         (λ i. to.Real (stateAt count (used + 1) (sym (P .behind) i) m (same-looked i) is.Real d) x))
         .1 D q .0
+
+  pub comment-step : (count used at k : ℕ) (r : Skipped) → PassesComment text at r → Inv text T R X room (between at count used k) → Inv text T R X room (between (r .next) count used k)
+  unfolding isIdle
+  comment-step count used at k r P I =
+      goes-to (between at count used k) _ I
+      (passed-over (between at count used k) (P .some-bytes) (rw (P .opens)) ∙ (λ i. to.Going (between (sym (P .behind) i) count used k)))

@@ -31,7 +31,10 @@ use Rattle.statement.specs.declared.Draft.{Draft}
 use Rattle.statement.specs.declared.Phase.{Phase}
 use Rattle.statement.specs.declared.State.{State}
 use Rattle.statement.specs.declared.Phase.the-variants as is
+use Rattle.plain.proofs.StepLaws.{comment-step}
 use Rattle.word_scan.proofs.PassLaws.{line-most}
+use Rattle.word_scan.specs.Passing.{PassesComment}
+use Rattle.word_scan.specs.declared.Skipped.{Skipped}
 
 module _ (text : Bytes) (T : List ℕ) (R : List Float) (X : List ℕ) (room : Settings) (s : State) (I : Inv text T R X room s) where
   -- the line of a place behind all names, counted on from the last one
@@ -60,6 +63,11 @@ module _ (text : Bytes) (T : List ℕ) (R : List Float) (X : List ℕ) (room : S
   -- so a reading stands there
   pub stands : isIdle (s .phase) ≡ true → (line : ℕ) → line ≡ clipped (lineFrom text T (s .count) (s .at)) → Stands text T R X room (record { at = s .at; line = line; count = s .count; used = s .used; looked = s .looked })
   stands h line e = record { inv = subst (Inv text T R X room) (idle-is h) I; line-is = e ∙ line-first }
+
+-- a comment
+module _ (text : Bytes) (T : List ℕ) (R : List Float) (X : List ℕ) (room : Settings) (b : Between) (r : Skipped) (P : PassesComment text (b .at) r) where
+  pub comment-stands : Stands text T R X room b → Stands text T R X room (record { at = r .next; line = b .line + r .lines; count = b .count; used = b .used; looked = b .looked })
+  comment-stands S = record { inv = comment-step text T R X room (b .count) (b .used) (b .at) (b .looked) r P (S .inv); line-is = omega (arith, S .line-is, P .lines-on) }
 
 -- a statement's words and reals
 module _ (text : Bytes) (T : List ℕ) (R : List Float) (X : List ℕ) (room : Settings) (b : Between) (h : Head) (B : Begins text T X room (idleAt b) (b .line) h) (f : Filled) (D : List Float) (F : Fills text R room (h .draft) (unfilled h (b .used)) f D) where

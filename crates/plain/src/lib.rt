@@ -432,8 +432,8 @@ fn at_real(count: usize, h: Head, f: Filled) -> State
     }
 }
 
-// Reads statements whole from where a reading stands between two of them, and stores and enters them, as long as they are plain. Within
-// a statement nothing is read.
+// Reads statements whole from where a reading stands between two of them, and stores and enters them, as long as they are plain, and
+// passes comments between them. Within a statement nothing is read.
 pub fn statements(
     text: &[u8],
     records: &mut [u32],
@@ -459,7 +459,13 @@ pub fn statements(
     while b.count < settings.records {
         let h = head_at(text, records, index, settings, b);
         if !h.good {
-            return statement::between(b.at, b.count, b.used, b.looked);
+            let c = word_scan::comment(text, b.at);
+            if !c.good {
+                return statement::between(b.at, b.count, b.used, b.looked);
+            }
+            b.at = c.next;
+            b.line += c.lines;
+            continue;
         }
         let f = fill(text, reals, settings, h, b.used);
         if 0 < f.left {

@@ -1,5 +1,5 @@
 -- Good bytes up to a blank or the text's end are the next word, and no line ends among them.
-use mathlib.Core.Bool.{Bool, true, false, _||_, cond, false≢true}
+use mathlib.Core.Bool.{Bool, true, false, not, _||_, cond, false≢true}
 use mathlib.Core.List.{List, [], _∷_}
 use mathlib.Core.Logic.{_⊎_, inl, inr}
 use mathlib.Core.Option.{some}
@@ -7,17 +7,17 @@ use mathlib.Core.Path.{_≡_, refl, ap, sym, _∙_, subst}
 use Prim.Native.Nat.{ℕ, zero, suc, _+_, _-_, _≤_, _<_}
 use native.Mathlib.Numerals.{add-one}
 use native.Mathlib.Omega.{arith}
-use borrow.Author.Tests.{eqb-true, leb-true, le-leb}
+use borrow.Author.Tests.{eqb-true, leb-true, le-leb, not-true}
 use lib.Dec.{eqb, leb}
 use lib.ListN.{length, length-drop, length-take, take, drop, getD}
 use lib.Seq.{drop-cons, getD-drop, take-all}
 use Rattle.laws.proofs.BoolLaws.{and-left, and-right}
-use Rattle.laws.proofs.RunLaws.{past-least, past-most, past-run, run-all, run-length}
+use Rattle.laws.proofs.RunLaws.{past-fails, past-least, past-most, past-run, run-all, run-length, run-more}
 use Rattle.laws.specs.Bytes.{Bytes, part}
 use Rattle.laws.specs.Runs.{all, past, run}
 use Rattle.lexer.proofs.CheckedLaws.{good-word}
 use Rattle.lexer.proofs.ClassLaws.{blank-not-good}
-use Rattle.lexer.specs.Class.{isBlank, isGood, isOther}
+use Rattle.lexer.specs.Class.{isBlank, isGood, isInLine, isOther}
 use Rattle.lexer.specs.Word.{checkedAt, endsWord, wordAt, wordBytes, wordEnd, wordFault}
 use Rattle.lexer.specs.declared.Checked.{Checked}
 use Rattle.numeral.specs.Count.{countOf}
@@ -28,7 +28,7 @@ use Rattle.numeral_scan.specs.Scan.{ReadAt}
 use Rattle.numeral_scan.specs.declared.Scanned.{Scanned}
 use Rattle.scene.proofs.LineLaws.{line-on, newlines-more, newlines-most}
 use Rattle.scene.specs.Record.{lineAt, newlines}
-use Rattle.word_scan.specs.Passing.{Passes, PassesCount, PassesReal, PassesWord}
+use Rattle.word_scan.specs.Passing.{Passes, PassesComment, PassesCount, PassesReal, PassesWord}
 use Rattle.word_scan.specs.declared.Passed.{Passed}
 
 -- ---- lines
@@ -191,3 +191,42 @@ passed-on text at next lines P =
     let from : at ≤ place = omega (arith, past-least isBlank text at) in
     let fits : place + size ≤ length text = omega (arith, run-length isOther (drop place text), length-drop place text) in
     (omega (arith, P .behind, P .some-bytes), omega (arith, P .behind), from, here)
+
+-- ---- a comment
+
+-- no line ends within a line
+in-line : (w : Bytes) → all isInLine w ≡ true → newlines w ≡ 0
+unfolding newlines all isInLine
+in-line [] h = refl
+in-line (b ∷ w) h = rw (not-true (eqb b 10) (and-left (not (eqb b 10)) (all isInLine w) h)) (in-line w (and-right (not (eqb b 10)) (all isInLine w) h))
+
+module _ (text : Bytes) (at place end : ℕ) (p : place ≡ past isBlank text at) (l : place < length text) (e : end ≡ past isInLine text place) where
+  line-within : (place ≤ end) × (end ≤ length text)
+  line-within = (omega (arith, e, past-least isInLine text place), omega (arith, e, past-most isInLine text place))
+
+  line-stays : lineAt text end ≡ lineAt text place
+  line-stays =
+      let n : end - place ≡ run isInLine (drop place text) = omega (arith, e, past-run isInLine text place (omega arith)) in
+      let a : all isInLine (part text place (end - place)) ≡ true = ap (λ (k : ℕ). all isInLine (take k (drop place text))) n ∙ run-all isInLine (drop place text) in
+      omega (arith, line-on text place end (line-within .0), in-line (part text place (end - place)) a)
+
+  -- the comment's mark is no blank, so a word stands there
+  word-there : 0 < wordAt text at .len
+  unfolding wordAt isOther
+  word-there =
+      let other : isBlank (getD text (past isBlank text at) 0) ≡ false = past-fails isBlank text at 0 (omega (arith, p)) in
+      omega (arith, ap (run isOther) (drop-cons text (past isBlank text at) 0 (omega (arith, p))), run-more isOther (getD text (past isBlank text at) 0) (drop (suc (past isBlank text at)) text) (ap not other))
+
+  pub comment-passes : getD text place 0 ≡ 35 → (before lines : ℕ) → lineAt text at + before ≡ lineAt text place → lineAt text end + lines ≡ lineAt text (end + 1) → PassesComment text at (record { good = true; next = end + 1; lines = before + lines })
+  unfolding wordAt
+  comment-passes o before lines b n = record {
+    some-bytes = word-there;
+    opens = ap (λ (k : ℕ). getD text k 0) (sym p) ∙ o;
+    behind = ap (λ (k : ℕ). k + 1) (e ∙ ap (past isInLine text) p);
+    further = omega (arith, p, past-least isBlank text at, line-within);
+    within = omega (arith, p, past-least isBlank text at);
+    lines-on = omega (arith, line-stays);
+  }
+
+  pub comment-end : end < length text + 1
+  comment-end = omega (arith, line-within)

@@ -1,11 +1,11 @@
-// What stands next in a text, gone over once: a word, a count or a numeral, with the lines that end on the way.
+// What stands next in a text, gone over once: a word, a count, a numeral or a comment, with the lines that end on the way.
 ghost use mathlib.Core.Bool.{false, true};
 ghost use mathlib.Core.Path.{_≡_};
 ghost use Prim.Native.Nat.{_+_};
 ghost use Rattle.laws.specs.Runs.{past};
 ghost use Rattle.lexer.specs.Class.{isBlank};
 ghost use Rattle.scene.specs.Record.{lineAt};
-ghost use Rattle.word_scan.specs.Passing.{PassesCount, PassesReal, PassesWord};
+ghost use Rattle.word_scan.specs.Passing.{PassesComment, PassesCount, PassesReal, PassesWord};
 use numeral::Count;
 
 // The place behind blanks, and how many lines end before it.
@@ -37,6 +37,13 @@ pub struct Counted {
 pub struct Valued {
     pub good: bool,
     pub value: f64,
+    pub next: usize,
+    pub lines: usize,
+}
+
+// A comment where a statement may begin: the place behind its line, and how many lines end before that place.
+pub struct Skipped {
+    pub good: bool,
     pub next: usize,
     pub lines: usize,
 }
@@ -198,6 +205,36 @@ pub fn real(text: &[u8], at: usize) -> Valued
     Valued {
         good: true,
         value: scanned.value,
+        next: end + 1,
+        lines: gap.lines + line_ends(text, end),
+    }
+}
+
+fn no_comment() -> Skipped
+    ensures { λ r. ⌜ r .good ≡ false ⌝ }
+{
+    Skipped {
+        good: false,
+        next: 0,
+        lines: 0,
+    }
+}
+
+// The comment that stands next from `at` on, where a statement may begin there.
+pub fn comment(text: &[u8], at: usize) -> Skipped
+    ensures { λ r. ⌜ (r .good ≡ true → PassesComment (now (text .entry)) at r) ⌝ }
+{
+    let gap = skip(text, at);
+    let place = gap.place;
+    if text.len() <= place {
+        return no_comment();
+    }
+    if text[place] != b'#' {
+        return no_comment();
+    }
+    let end = lexer::line_end(text, place);
+    Skipped {
+        good: true,
         next: end + 1,
         lines: gap.lines + line_ends(text, end),
     }

@@ -6,7 +6,7 @@ use borrow.Author.Tests.{not-false}
 use lib.Ieee.{Float}
 use lib.ListN.{length}
 use Rattle.laws.specs.Bytes.{Bytes}
-use Rattle.plain.proofs.WholeLaws.{goes-whole, line-bound, line-kept, stands, stops-inside, whole-further, whole-within}
+use Rattle.plain.proofs.WholeLaws.{comment-stands, goes-whole, line-bound, line-kept, stands, stops-inside, whole-further, whole-within}
 use Rattle.plain.specs.Plain.{Begins, Fills, Stands, idleAt, unfilled}
 use Rattle.plain.specs.declared.Between.{Between}
 use Rattle.plain.specs.declared.Filled.{Filled}
@@ -16,7 +16,8 @@ use Rattle.scene.specs.Record.{lineAt}
 use Rattle.scene.specs.declared.Settings.{Settings}
 use Rattle.statement.specs.States.{clipped}
 use Rattle.statement.specs.declared.State.{State}
--- `plain::statements` meets its contract: each turn of the loop reads and enters one statement.
+use Rattle.word_scan.proofs.PassLaws.{line-most}
+-- `plain::statements` meets its contract: each turn of the loop passes a comment, or reads and enters a statement.
 use borrow.Author.Needs.{needs}
 use Rattle.plain.proofs.statements.Statement.{statement}
 use Rattle.plain.proofs.statements.Tie as tie
@@ -50,29 +51,55 @@ loop-holds c = (λ S. S, omega (arith, (c .wide) .ensures, (c .before .narrow) .
 head-at-requires : tie.Need-head-at-requires Inv-loop μ-loop
 head-at-requires c κs = (c .before .before .before .before .before .loop) .inv .1
 
+comment-requires : tie.Need-comment-requires Inv-loop μ-loop
+comment-requires c κs = search needs
+
 between-requires : tie.Need-between-requires Inv-loop μ-loop
 between-requires c κs = search needs
 
 same-length : tie.Need-same-length Inv-loop μ-loop
-same-length c = (c .before .before .before .before .before .before .before .before .before .loop) .inv .3
+same-length c = (c .before .before .before .before .before .before .before .before .before .before .before .before .loop) .inv .3
 
 same-length-2 : tie.Need-same-length-2 Inv-loop μ-loop
-same-length-2 c = (c .before .before .before .before .before .before .before .before .before .loop) .inv .4
+same-length-2 c = (c .before .before .before .before .before .before .before .before .before .before .before .before .loop) .inv .4
 
 same-length-3 : tie.Need-same-length-3 Inv-loop μ-loop
-same-length-3 c = (c .before .before .before .before .before .before .before .before .before .loop) .inv .5
+same-length-3 c = (c .before .before .before .before .before .before .before .before .before .before .before .before .loop) .inv .5
 
 returns-2 : tie.Need-returns-2 Inv-loop μ-loop
 returns-2 c =
-    let a = c .before .before .before .before .before .before .before .before .before .before .before .before .before .before .before .before .before .before .before .before .args in
-    let at-is-idle = c .before .before .before .before .before .before .before .before .before .before .before .before .before .before .before .is-idle in
-    let at-if1 = c .before .before .before .before .before .before .before .before .before .before .before .before .before .before .if1 in
-    let at-line-of = c .before .before .before .before .before .before .before .before .before .before .before .before .line-of in
-    let at-narrow = c .before .before .before .before .before .before .before .before .before .before .before .narrow in
-    let at-wide = c .before .before .before .before .before .before .before .before .before .before .wide in
-    let at-loop = c .before .before .before .before .before .before .before .before .before .loop in
+    let a = c .before .before .before .before .before .before .before .before .before .before .before .before .before .before .before .before .before .before .before .before .before .before .before .args in
+    let at-is-idle = c .before .before .before .before .before .before .before .before .before .before .before .before .before .before .before .before .before .before .is-idle in
+    let at-if1 = c .before .before .before .before .before .before .before .before .before .before .before .before .before .before .before .before .before .if1 in
+    let at-line-of = c .before .before .before .before .before .before .before .before .before .before .before .before .before .before .before .line-of in
+    let at-narrow = c .before .before .before .before .before .before .before .before .before .before .before .before .before .before .narrow in
+    let at-wide = c .before .before .before .before .before .before .before .before .before .before .before .before .before .wide in
+    let at-loop = c .before .before .before .before .before .before .before .before .before .before .before .before .loop in
     let at-between = c .between in
     (λ I. subst (Inv (a .text .now) (at-loop .records) (at-loop .reals) (at-loop .index) (a .settings)) (sym (at-between .ensures)) (at-loop .inv .0 (stands (a .text .now) (a .records .now) (a .reals .now) (a .index .now) (a .settings) (a .s) I (sym (at-is-idle .ensures) ∙ not-false _ (at-if1 .left)) _ (at-wide .ensures ∙ at-narrow .ensures ∙ ap clipped (at-line-of .ensures))) .inv), omega (arith, ap (λ (z : State). z .at) (at-between .ensures), at-loop .inv .2))
+
+add-b : tie.Need-add-b Inv-loop μ-loop
+add-b c =
+    let a = c .before .before .before .before .before .before .before .before .before .before .before .before .before .before .before .before .before .before .before .before .before .before .before .before .args in
+    let start = c .before .before .before .before .before .before .before .before .before .before .before .before .before .before .before .before .before .before .before .before .before .before .before .before in
+    let at-loop = c .before .before .before .before .before .before .before .before .before .before .before .before .before .loop in
+    let at-comment = c .before .before .before .before .comment in
+    let at-if4 = c .before .before .if4 in
+    omega (arith, at-loop .inv .1, (at-comment .ensures (not-false _ (at-if4 .left))) .lines-on, line-most (a .text .now) (at-comment .result .next), start .good .0)
+
+loop-less : tie.Need-loop-less Inv-loop μ-loop
+loop-less c =
+    let at-comment = c .before .before .before .before .comment in
+    let at-if4 = c .before .before .if4 in
+    omega (arith, (at-comment .ensures (not-false _ (at-if4 .left))) .further, (at-comment .ensures (not-false _ (at-if4 .left))) .within)
+
+loop-again : tie.Need-loop-again Inv-loop μ-loop
+loop-again c =
+    let a = c .before .before .before .before .before .before .before .before .before .before .before .before .before .before .before .before .before .before .before .before .before .before .before .before .args in
+    let at-loop = c .before .before .before .before .before .before .before .before .before .before .before .before .before .loop in
+    let at-comment = c .before .before .before .before .comment in
+    let at-if4 = c .before .before .if4 in
+    (λ S. comment-stands (a .text .now) (at-loop .records) (at-loop .reals) (at-loop .index) (a .settings) (at-loop .b) (at-comment .result) (at-comment .ensures (not-false _ (at-if4 .left))) (at-loop .inv .0 S), omega (arith, at-loop .inv .1, (at-comment .ensures (not-false _ (at-if4 .left))) .lines-on), omega (arith, at-loop .inv .2, (at-comment .ensures (not-false _ (at-if4 .left))) .further), at-loop .inv .3, at-loop .inv .4, at-loop .inv .5)
 
 fill-requires : tie.Need-fill-requires Inv-loop μ-loop
 fill-requires c κs =
@@ -81,7 +108,7 @@ fill-requires c κs =
     let at-if3 = c .before .if3 in
     omega (arith, at-loop .inv .1, at-head-at .ensures (not-false _ (at-if3 .left)) .line-on)
 
--- a turn of the loop, once the statement's reals are stored
+-- a turn of the loop, once a statement's reals are stored
 module _ (p : tie.After-fill Inv-loop μ-loop) where
   abbrev text : Bytes
   text = p .before .before .before .before .before .before .before .before .before .before .before .before .before .before .before .before .before .before .before .before .before .args .text .now
@@ -151,9 +178,9 @@ returns-3 c =
     let at-wide = c .before .before .before .before .before .before .before .before .before .before .before .before .before .before .before .before .wide in
     let at-loop = c .before .before .before .before .before .before .before .before .before .before .before .before .before .before .before .loop in
     let p = c .before .before .before .before .before in
-    let at-if4 = c .before .if4 in
+    let at-if5 = c .before .if5 in
     let at-at-real = c .at-real in
-    (λ I. subst (Inv (text p) (records p) (stored p) (index p) (settings p)) (sym (at-at-real .ensures)) (stops-inside (text p) (records p) (reals p) (index p) (settings p) (from p) (head p) (begins p) (filled p) (stored p) (fills p) (at-loop .inv .0 (stands (a .text .now) (a .records .now) (a .reals .now) (a .index .now) (a .settings) (a .s) I (sym (at-is-idle .ensures) ∙ not-false _ (at-if1 .left)) _ (at-wide .ensures ∙ at-narrow .ensures ∙ ap clipped (at-line-of .ensures))) .inv) (at-if4 .taken)), omega (arith, ap (λ (z : State). z .at) (at-at-real .ensures), further p, at-loop .inv .2))
+    (λ I. subst (Inv (text p) (records p) (stored p) (index p) (settings p)) (sym (at-at-real .ensures)) (stops-inside (text p) (records p) (reals p) (index p) (settings p) (from p) (head p) (begins p) (filled p) (stored p) (fills p) (at-loop .inv .0 (stands (a .text .now) (a .records .now) (a .reals .now) (a .index .now) (a .settings) (a .s) I (sym (at-is-idle .ensures) ∙ not-false _ (at-if1 .left)) _ (at-wide .ensures ∙ at-narrow .ensures ∙ ap clipped (at-line-of .ensures))) .inv) (at-if5 .taken)), omega (arith, ap (λ (z : State). z .at) (at-at-real .ensures), further p, at-loop .inv .2))
 
 narrow-requires-2 : tie.Need-narrow-requires-2 Inv-loop μ-loop
 narrow-requires-2 c κs = search needs
@@ -161,8 +188,8 @@ narrow-requires-2 c κs = search needs
 enter-row-requires : tie.Need-enter-row-requires Inv-loop μ-loop
 enter-row-requires c κs = search needs
 
-add-t31 : tie.Need-add-t31 Inv-loop μ-loop
-add-t31 c =
+add-t33 : tie.Need-add-t33 Inv-loop μ-loop
+add-t33 c =
     let at-struct-known = c .before .before .before .before .before .before .before .before .before .before .before .before .before .before .before .before .before .before .before .before .before .before .struct-known in
     let at-struct-known2 = c .before .before .before .before .before .before .before .before .before .before .before .before .before .before .before .before .before .before .before .before .before .struct-known2 in
     let at-if2 = c .before .before .before .before .before .before .before .before .before .before .before .before .before .before .before .before .before .before .before .before .if2 in
@@ -171,22 +198,22 @@ add-t31 c =
 sum-requires : tie.Need-sum-requires Inv-loop μ-loop
 sum-requires c κs = search needs
 
-loop-less : tie.Need-loop-less Inv-loop μ-loop
-loop-less c =
-    let start = c .before .before .before .before .before .before .before .before .before .before .before .before .before .before in
-    omega (arith, further start, within start)
+loop-less-2 : tie.Need-loop-less-2 Inv-loop μ-loop
+loop-less-2 c =
+    let p = c .before .before .before .before .before .before .before .before .before .before .before .before .before .before in
+    omega (arith, further p, within p)
 
-loop-again : tie.Need-loop-again Inv-loop μ-loop
-loop-again c =
+loop-again-2 : tie.Need-loop-again-2 Inv-loop μ-loop
+loop-again-2 c =
     let at-loop = c .before .before .before .before .before .before .before .before .before .before .before .before .before .before .before .before .before .before .before .before .before .before .before .before .loop in
     let at-if2 = c .before .before .before .before .before .before .before .before .before .before .before .before .before .before .before .before .before .before .before .before .before .if2 in
     let at-fill = c .before .before .before .before .before .before .before .before .before .before .before .before .before .before .fill in
     let p = c .before .before .before .before .before .before .before .before .before .before .before .before .before .before in
-    let at-if4 = c .before .before .before .before .before .before .before .before .before .before .if4 in
+    let at-if5 = c .before .before .before .before .before .before .before .before .before .before .if5 in
     let at-narrow2 = c .before .before .before .before .before .before .before .narrow2 in
     let at-enter-row = c .before .before .before .before .before .before .enter-row in
     let at-sum = c .sum in
-    (λ S. record { inv = goes-whole (text p) (records p) (reals p) (index p) (settings p) (from p) (head p) (begins p) (filled p) (stored p) (fills p) (at-loop .inv .0 S .inv) (at-loop .inv .0 S .line-is) (at-if2 .taken) (omega (arith, at-if4 .left)) _ _ _ _ _ (at-narrow2 .ensures) (at-enter-row .ensures .0) (at-enter-row .ensures .1 .0) (at-enter-row .ensures .1 .1) (at-enter-row .kept .1 .0) (at-enter-row .kept .1 .1 .0) (at-sum .ensures); line-is = line-kept (text p) (records p) (reals p) (index p) (settings p) (from p) (head p) (begins p) (filled p) (stored p) (fills p) (at-loop .inv .0 S .line-is) }, line-bound (text p) (records p) (reals p) (index p) (settings p) (from p) (head p) (begins p) (filled p) (stored p) (fills p) (at-loop .inv .1), omega (arith, further p, at-loop .inv .2), at-enter-row .kept .1 .0 ∙ at-loop .inv .3, at-fill .kept .1 .0 ∙ at-loop .inv .4, at-enter-row .kept .1 .1 .0 ∙ at-loop .inv .5)
+    (λ S. record { inv = goes-whole (text p) (records p) (reals p) (index p) (settings p) (from p) (head p) (begins p) (filled p) (stored p) (fills p) (at-loop .inv .0 S .inv) (at-loop .inv .0 S .line-is) (at-if2 .taken) (omega (arith, at-if5 .left)) _ _ _ _ _ (at-narrow2 .ensures) (at-enter-row .ensures .0) (at-enter-row .ensures .1 .0) (at-enter-row .ensures .1 .1) (at-enter-row .kept .1 .0) (at-enter-row .kept .1 .1 .0) (at-sum .ensures); line-is = line-kept (text p) (records p) (reals p) (index p) (settings p) (from p) (head p) (begins p) (filled p) (stored p) (fills p) (at-loop .inv .0 S .line-is) }, line-bound (text p) (records p) (reals p) (index p) (settings p) (from p) (head p) (begins p) (filled p) (stored p) (fills p) (at-loop .inv .1), omega (arith, further p, at-loop .inv .2), at-enter-row .kept .1 .0 ∙ at-loop .inv .3, at-fill .kept .1 .0 ∙ at-loop .inv .4, at-enter-row .kept .1 .1 .0 ∙ at-loop .inv .5)
 
 between-requires-2 : tie.Need-between-requires-2 Inv-loop μ-loop
 between-requires-2 c κs = search needs
@@ -225,11 +252,15 @@ statements-spec =
     wide-requires
     loop-holds
     head-at-requires
+    comment-requires
     between-requires
     same-length
     same-length-2
     same-length-3
     returns-2
+    add-b
+    loop-less
+    loop-again
     fill-requires
     at-real-requires
     same-length-4
@@ -238,10 +269,10 @@ statements-spec =
     returns-3
     narrow-requires-2
     enter-row-requires
-    add-t31
+    add-t33
     sum-requires
-    loop-less
-    loop-again
+    loop-less-2
+    loop-again-2
     between-requires-2
     same-length-7
     same-length-8

@@ -1,0 +1,6 @@
+-- To be believed.
+pub mod Corners
+pub mod Normal
+pub mod Crossing
+pub mod Polygon
+pub mod BothWays

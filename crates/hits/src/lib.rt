@@ -113,7 +113,7 @@ pub fn sphere_hit(ray: Ray, sphere: Sphere) -> Hit
 }
 
 // The plane through c with the normal n.
-fn plane_hit(ray: Ray, c: Vector, n: Vector) -> Hit
+pub fn plane_hit(ray: Ray, c: Vector, n: Vector) -> Hit
     ensures { λ r. ⌜ outcomeOf r ≡ planeHit ray c n ⌝ }
 {
     let m = dot(ray.direction, n);

@@ -1,1 +1,4 @@
 pub mod CrossLaws
+pub mod CodeLaws
+pub mod EdgeLaws
+pub mod HitLaws

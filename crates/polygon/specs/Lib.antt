@@ -4,3 +4,5 @@ pub mod Normal
 pub mod Crossing
 pub mod Polygon
 pub mod BothWays
+-- Inner models of the proofs.
+pub mod Code

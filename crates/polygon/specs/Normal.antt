@@ -1,7 +1,7 @@
 -- The normal of a polygon, and the axis that is dropped for it.
-use mathlib.Core.Bool.{Bool, false, _&&_, cond}
+use mathlib.Core.Bool.{Bool, _&&_, cond}
 use mathlib.Core.List.{List, [], _∷_}
-use lib.Ieee.{Float, fin, inf, nan, eq, lt}
+use lib.Ieee.{Float, eq, lt, neg}
 use Rattle.steps.specs.Step.{_⊕_, _⊖_, _⊗_, +0}
 use Rattle.steps.specs.declared.Vector.{Vector}
 use Rattle.polygon.specs.Corners.{Edge}
@@ -34,18 +34,16 @@ isZero n = eq (n .x) +0 && eq (n .y) +0 && eq (n .z) +0
 pub data Axis : Type 0 where
   x y z : Axis
 
--- a magnitude
-abbrev pub size : Float → Float
-size nan = nan
-size (inf s) = inf false
-size (fin s m e) = fin false m e
+-- a magnitude; that of -0 is 0
+unfoldable pub magnitude : Float → Float
+magnitude t = cond (lt t +0) (neg t) t
 
 -- "Drop the axis whose normal part is largest in magnitude, x before y before z on ties"
 unfoldable pub dropped : Vector → Axis
 dropped n =
-    let notX = cond (lt (size (n .y)) (size (n .z))) z y in
-    let notY = cond (lt (size (n .x)) (size (n .z))) z x in
-    cond (lt (size (n .x)) (size (n .y))) notX notY
+    let notX = cond (lt (magnitude (n .y)) (magnitude (n .z))) z y in
+    let notY = cond (lt (magnitude (n .x)) (magnitude (n .z))) z x in
+    cond (lt (magnitude (n .x)) (magnitude (n .y))) notX notY
 
 -- the two that are kept, in the order x, y, z
 abbrev pub first : Axis → Vector → Float

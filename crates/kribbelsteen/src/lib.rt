@@ -1,15 +1,17 @@
 // The entry points for host programs, under C's calling convention: numbers, slices and small arrays, no precondition. Each is
-// the call of the same promise in `host_scenes`, `host_saves`, `host_ordered`, `host_rays`, `ranks` or `root`.
+// the call of the same promise in `host_scenes`, `host_saves`, `host_lines`, `host_writing`, `host_rays`, `ranks` or `root`.
 ghost use mathlib.Core.Path.{_≡_};
 ghost use lib.ListN.{length, replicate};
 ghost use Rattle.finish.specs.Question.{nameRefusal};
 ghost use Rattle.fresnel.specs.Fresnel.{fresnelOf};
 ghost use Rattle.hits.specs.Ring.{ringHit};
 ghost use Rattle.hits.specs.Sphere.{sphereHit};
-ghost use Rattle.host_ordered.specs.Host.{HostOrdered};
+ghost use Rattle.host_lines.specs.Host.{HostLine};
+ghost use Rattle.host_lines.specs.Ordered.{HostOrdered};
 ghost use Rattle.host_rays.specs.Host.{hitKind, hitValues, rayIn, reflectionKind, reflectionValues, ringIn, sphereIn};
-ghost use Rattle.host_saves.specs.Host.{HostLine, HostReadsBoth, HostWrites};
+ghost use Rattle.host_saves.specs.Host.{HostReadsBoth};
 ghost use Rattle.host_scenes.specs.Host.{HostReads, HostReadsIndexed, finishReason, finishValues, namePart, wordValues};
+ghost use Rattle.host_writing.specs.Host.{HostWrites};
 ghost use Rattle.ordered.specs.Lines.{scene};
 ghost use Rattle.ranks.specs.Rank.{orderTable};
 ghost use Rattle.root.specs.Root.{rootOf};
@@ -120,7 +122,7 @@ pub extern "C" fn kribbelsteen_next_line<'a>(
 ) -> u32
     ensures { λ r. ⌜ HostLine (now (left .entry)) (now («left_records» .entry)) (now («left_reals» .entry)) (now (right .entry)) (now («right_records» .entry)) (now («right_reals» .entry)) (now (line .entry)) r (now (line .exit)) ⌝ }
 {
-    host_saves::tell_line(
+    host_lines::tell_line(
         left,
         left_records,
         left_reals,
@@ -161,7 +163,7 @@ pub extern "C" fn kribbelsteen_next_ordered(
 ) -> u32
     ensures { λ r. ⌜ HostOrdered (scene (now (left .entry)) (now («left_records» .entry)) (now («left_reals» .entry)) (now («left_order» .entry))) (scene (now (right .entry)) (now («right_records» .entry)) (now («right_reals» .entry)) (now («right_order» .entry))) (now (line .entry)) r (now (line .exit)) ⌝ }
 {
-    host_ordered::tell_ordered(
+    host_lines::tell_ordered(
         left,
         left_records,
         left_reals,
@@ -186,7 +188,7 @@ pub extern "C" fn kribbelsteen_write(
 ) -> u32
     ensures { λ r. ⌜ HostWrites mode (now (text .entry)) (now (records .entry)) (now (reals .entry)) (now (out .entry)) r (now (answer .exit)) (now (out .exit)) ⌝ }
 {
-    host_saves::tell_written(mode, text, records, reals, out, answer)
+    host_writing::tell_written(mode, text, records, reals, out, answer)
 }
 
 // A ray on a sphere: 0 hit, 1 miss, or the refusal's number, and the distance.

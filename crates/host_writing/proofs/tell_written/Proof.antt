@@ -1,8 +1,8 @@
--- `host_saves::tell_written` meets its contract.
+-- `host_writing::tell_written` meets its contract.
 use borrow.Author.Needs.{needs}
-use Rattle.host_saves.proofs.HostLaws.{written-told}
-use Rattle.host_saves.proofs.tell_written.Statement.{statement}
-use Rattle.host_saves.proofs.tell_written.Tie as tie
+use Rattle.host_writing.proofs.HostLaws.{written-told}
+use Rattle.host_writing.proofs.tell_written.Statement.{statement}
+use Rattle.host_writing.proofs.tell_written.Tie as tie
 
 returns : tie.Need-returns
 returns c =

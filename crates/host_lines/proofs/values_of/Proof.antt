@@ -1,10 +1,10 @@
--- `host_saves::values_of` meets its contract.
+-- `host_lines::values_of` meets its contract.
 use mathlib.Core.List.{[], _∷_}
 use mathlib.Core.Path.{sym}
 use borrow.Author.Needs.{needs}
 use Rattle.comparison.specs.Answer.{sideOf, numberOf}
-use Rattle.host_saves.proofs.values_of.Statement.{statement}
-use Rattle.host_saves.proofs.values_of.Tie as tie
+use Rattle.host_lines.proofs.values_of.Statement.{statement}
+use Rattle.host_lines.proofs.values_of.Tie as tie
 
 returns : tie.Need-returns
 returns c =

@@ -1,8 +1,8 @@
--- `host_saves::held_in` meets its contract.
+-- `host_lines::held_in` meets its contract.
 use borrow.Author.Needs.{needs}
-use Rattle.host_saves.proofs.HostLaws.{held-left, held-right}
-use Rattle.host_saves.proofs.held_in.Statement.{statement}
-use Rattle.host_saves.proofs.held_in.Tie as tie
+use Rattle.host_lines.proofs.HostLaws.{held-left, held-right}
+use Rattle.host_lines.proofs.held_in.Statement.{statement}
+use Rattle.host_lines.proofs.held_in.Tie as tie
 
 returns : tie.Need-returns
 returns c = held-left _ (c .before .if1 .taken)

@@ -1,9 +1,9 @@
--- `host_ordered::tell_ordered` meets its contract.
+-- `host_lines::tell_ordered` meets its contract.
 use borrow.Author.Needs.{needs}
 use Rattle.ordered.specs.Lines.{scene}
-use Rattle.host_ordered.proofs.HostLaws.{end-told, line-told}
-use Rattle.host_ordered.proofs.tell_ordered.Statement.{statement}
-use Rattle.host_ordered.proofs.tell_ordered.Tie as tie
+use Rattle.host_lines.proofs.OrderedLaws.{end-told, line-told}
+use Rattle.host_lines.proofs.tell_ordered.Statement.{statement}
+use Rattle.host_lines.proofs.tell_ordered.Tie as tie
 
 returns : tie.Need-returns
 returns c =

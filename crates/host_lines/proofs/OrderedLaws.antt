@@ -11,7 +11,7 @@ use Rattle.ordered.specs.Lines.{Scene, handed, linesFrom}
 use Rattle.ordered.specs.declared.Cursors.{Cursors}
 use Rattle.ordered.specs.declared.Next.{Next}
 use Rattle.ordered.specs.declared.Next.the-variants as ordered
-use Rattle.host_ordered.specs.Host.{HostOrdered, cursorsIn, firstOf, furtherOf, told}
+use Rattle.host_lines.specs.Ordered.{HostOrdered, cursorsIn, firstOf, furtherOf, told}
 
 module _ (l r : Scene) (held : List ℕ) where
   -- what the answer x of the code hands out are the lines from the cursors held

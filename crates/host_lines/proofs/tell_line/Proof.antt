@@ -1,9 +1,9 @@
--- `host_saves::tell_line` meets its contract.
+-- `host_lines::tell_line` meets its contract.
 use mathlib.Core.Path.{refl}
 use borrow.Author.Needs.{needs}
-use Rattle.host_saves.proofs.HostLaws.{line-told}
-use Rattle.host_saves.proofs.tell_line.Statement.{statement}
-use Rattle.host_saves.proofs.tell_line.Tie as tie
+use Rattle.host_lines.proofs.HostLaws.{line-told}
+use Rattle.host_lines.proofs.tell_line.Statement.{statement}
+use Rattle.host_lines.proofs.tell_line.Tie as tie
 
 returns : tie.Need-returns
 returns c =

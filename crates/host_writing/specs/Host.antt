@@ -1,0 +1,16 @@
+-- What a host program is told of a scene written out: a number for the kind of answer, and the answer's values in a small array.
+use mathlib.Core.List.{List}
+use mathlib.Core.Path.{_≡_}
+use Prim.Native.Nat.{ℕ}
+use lib.Ieee.{Float}
+use lib.ListN.{length}
+use Rattle.host_scenes.specs.Host.{modeOf}
+use Rattle.laws.specs.Bytes.{Bytes}
+use Rattle.writer.specs.Answer as written
+use Rattle.writer.specs.Answer.{answered, output, tidied}
+
+-- the reason, or 0; place and length; and the output
+pub record HostWrites (mode : ℕ) (text : Bytes) (records : List ℕ) (reals : List Float) (out : Bytes) (r : ℕ) (values : List ℕ) (out′ : Bytes) : Type 0 where
+  pub says : r ≡ written.reasonOf (answered (tidied (modeOf mode) text records reals (length out)))
+  pub numbers : values ≡ written.valuesOf (answered (tidied (modeOf mode) text records reals (length out)))
+  pub bytes : out′ ≡ output (length out) (tidied (modeOf mode) text records reals (length out))

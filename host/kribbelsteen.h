@@ -72,11 +72,11 @@ enum kribbelsteen_reason {
     KRIBBELSTEEN_HOUSE_RULE = 16,       /* breaks a house rule (the real that completes the breach) */
     KRIBBELSTEEN_INDEX_TOO_SMALL = 24,  /* kribbelsteen_read_indexed: the index has under 2,048 entries (0) */
     KRIBBELSTEEN_RETIRED_TYPE = 28,     /* antimatter, in the new reading (type) */
-    /* kribbelsteen_name and kribbelsteen_finish */
+    /* kribbelsteen_name, kribbelsteen_finish and kribbelsteen_polygon_in_table */
     KRIBBELSTEEN_NO_SUCH_PRIMITIVE = 17,
     KRIBBELSTEEN_BAD_TABLE = 18,
     KRIBBELSTEEN_ALLOWANCE = 19,
-    /* kribbelsteen_sphere, kribbelsteen_ring and kribbelsteen_fresnel */
+    /* kribbelsteen_sphere, kribbelsteen_ring, kribbelsteen_polygon, kribbelsteen_polygon_in_table and kribbelsteen_fresnel */
     KRIBBELSTEEN_NOT_FINITE = 20,
     KRIBBELSTEEN_OUT_OF_RANGE = 21,
     /* kribbelsteen_write */
@@ -248,6 +248,24 @@ uint32_t kribbelsteen_sphere(const double ray[6], const double sphere[4], double
  * one not above it; then 20 for a step whose result is NaN or infinite.
  * answer: the distance, in lengths of the direction, above 0; 0 on a miss or a refusal. Nothing else is written. */
 uint32_t kribbelsteen_ring(const double ray[6], const double ring[8], double answer[1]);
+
+/* Where a ray hits a polygon: flat, its last corner joined to its first. A hole is joined to the rim by an edge that is gone along
+ * twice.
+ *
+ * ray: origin x y z, direction x y z. corners: x y z of each. The normal is the sum of the products of consecutive corners, and the
+ * axis of its largest part is left out; a point of the plane is inside where a line from it crosses an odd number of edges. An edge
+ * counts from its lower end on and not at its upper one.
+ * Returns 0 for a hit and 1 for a miss, or refuses: 20 if an input is NaN or infinite; 21 for under 3 corners or a number of doubles
+ * that is no multiple of 3; then by the first step that fails 20 for a result that is NaN or infinite, 21 for a normal that is 0.
+ * answer: the distance, in lengths of the direction, above 0; 0 on a miss or a refusal. Nothing else is written. */
+uint32_t kribbelsteen_polygon(const double ray[6], const double *corners, size_t corners_len, double answer[1]);
+
+/* Where a ray hits a polygon of a scene, in tables that may hold anything. The text is not needed.
+ *
+ * Returns and answers as kribbelsteen_polygon does for the reals of the primitive of a number, or refuses before that: 18 and 17 as
+ * kribbelsteen_name does for count and number, then 18 if it is no polygon or if not all its reals are in the table of reals. */
+uint32_t kribbelsteen_polygon_in_table(const double ray[6], const uint32_t *records, size_t records_len, size_t count,
+                                       size_t number, const double *reals, size_t reals_len, double answer[1]);
 
 /* Fresnel's coefficients for light that comes at a cosine cos1 from index n1 to index n2.
  *

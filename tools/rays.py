@@ -1,13 +1,13 @@
 #!/usr/bin/env python3
-"""Ray hits, Fresnel values and roots: an implementation of its own of document 01's section "Rays and reflection".
+"""Ray hits, Fresnel values and roots: an implementation of its own of document 01's section "Rays and reflection" and of request L6.
 
     tools/rays.py cases       a list of cases, one to a line (crates/rays/stdin)
     tools/rays.py answers     the answers to standard input's cases (crates/rays/stdout)
     tools/rays.py summary     how many cases there are of each kind, and how many of them have each answer
 
-A case is a kind and the bits of its doubles in hex: `sphere o d c r`, `ring o d c n inner outer`, `fresnel cos1 n1 n2`,
-`root x`, where o, d, c and n are three doubles each. A step is one operation of Python's floats, which are IEEE doubles
-rounded once; the root is taken of whole numbers, exactly."""
+A case is a kind and the bits of its doubles in hex: `sphere o d c r`, `ring o d c n inner outer`, `polygon o d` and its corners,
+`fresnel cos1 n1 n2`, `root x`, where o, d, c and n are three doubles each. A step is one operation of Python's floats, which are
+IEEE doubles rounded once; the root is taken of whole numbers, exactly; a polygon's steps are exact fractions, rounded once."""
 import collections
 import math
 import random
@@ -17,8 +17,8 @@ import sys
 from fractions import Fraction
 from math import inf, nextafter
 
-SIZES = {"sphere": 10, "ring": 14, "fresnel": 3, "root": 1}
-LONGEST = 512  # bytes of a line, its end not counted
+SIZES = {"sphere": [10], "ring": [14], "polygon": range(6, 127), "fresnel": [3], "root": [1]}
+LONGEST = 2304  # bytes of a line, its end not counted
 
 
 def value(bits):
@@ -103,6 +103,55 @@ def ring(*inputs):
     return "at " + pattern(t) if low <= s <= high else "miss"
 
 
+def rounded(x):
+    """The double nearest to a fraction, as a fraction again: all that a polygon's steps need of signs of zero is that +0 is -0."""
+    try:
+        return Fraction(x.numerator / x.denominator)  # Python rounds this once
+    except OverflowError:
+        raise Refused(20) from None
+
+
+def exact_dot(v, w):
+    x, y, z = (rounded(a * b) for a, b in zip(v, w))
+    return rounded(rounded(x + y) + z)
+
+
+def cross(v, w):
+    """Each part is u*v-w*z, of the next two axes."""
+    return [rounded(rounded(v[i - 2] * w[i - 1]) - rounded(v[i - 1] * w[i - 2])) for i in range(3)]
+
+
+def is_crossed(g, h, p, a, b):
+    """Whether a line from p along the axis g crosses the edge from a to b, which counts by its heights along h."""
+    low, high = sorted((a, b), key=lambda end: end[h])
+    if not low[h] <= p[h] < high[h]:
+        return False
+    part = rounded(rounded(rounded(p[h] - low[h]) * rounded(high[g] - low[g])) / rounded(high[h] - low[h]))
+    return rounded(low[g] + part) > p[g]
+
+
+def polygon(*inputs):
+    in_range(len(inputs) >= 6 + 9 and len(inputs) % 3 == 0)
+    o, d, *corners = ([Fraction(x) for x in inputs[i : i + 3]] for i in range(0, len(inputs), 3))
+    edges = list(zip(corners, corners[1:] + corners[:1]))
+    n = None
+    for a, b in edges:
+        product = cross(a, b)
+        n = product if n is None else [rounded(x + y) for x, y in zip(n, product)]
+    in_range(any(n))
+    m = exact_dot(d, n)
+    if m == 0:
+        return "miss"
+    t = rounded(exact_dot([rounded(x - y) for x, y in zip(corners[0], o)], n) / m)
+    if t <= 0:
+        return "miss"
+    p = [rounded(x + rounded(t * y)) for x, y in zip(o, d)]
+    dropped = max(range(3), key=lambda axis: (abs(n[axis]), -axis))
+    g, h = (axis for axis in range(3) if axis != dropped)
+    crossings = sum(is_crossed(g, h, p, a, b) for a, b in edges)
+    return "at " + pattern(float(t)) if crossings % 2 == 1 else "miss"
+
+
 def fresnel(cos1, n1, n2):
     in_range(0 <= cos1 <= 1 and n1 > 0 and n2 > 0)
     k = divide(n1, n2)
@@ -122,13 +171,13 @@ def fresnel(cos1, n1, n2):
 
 def answer(line):
     kind, *words = line.split() or [""]
-    if len(line) > LONGEST or SIZES.get(kind) != len(words) or not all(re.fullmatch("[0-9a-f]{16}", word) for word in words):
+    if len(line) > LONGEST or len(words) not in SIZES.get(kind, []) or not all(re.fullmatch("[0-9a-f]{16}", word) for word in words):
         return "bad"
     inputs = [value(int(word, 16)) for word in words]
     if kind == "root":
         return "root " + (pattern(root(inputs[0])) if 0 <= inputs[0] < inf else "nan")
     try:
-        return {"sphere": sphere, "ring": ring, "fresnel": fresnel}[kind](*map(step, inputs))
+        return {"sphere": sphere, "ring": ring, "polygon": polygon, "fresnel": fresnel}[kind](*map(step, inputs))
     except Refused as refused:
         return "refused %d" % refused.args[0]
 
@@ -263,13 +312,118 @@ def roots():
     return [[x] for x in xs]
 
 
+L_SHAPE = [(0, 0), (4, 0), (4, 1), (1, 1), (1, 3), (0, 3)]
+COMB = [(0, 0), (6, 0), (6, 3), (5, 3), (5, 1), (4, 1), (4, 3), (3, 3), (3, 1), (2, 1), (2, 3), (0, 3)]
+ARROW = [(0, 0), (3, 2), (0, 4), (1, 2)]
+HOLE = [(1, 1), (1, 2), (3, 2), (3, 1)]
+SEAM = [(0, 0), (4, 0), (4, 3), (0, 3), (0, 0), *HOLE, HOLE[0]]  # out to the hole and back over coincident edges
+TWO_HOLES = [(0, 0), (6, 0), (6, 4), (0, 4), (0, 0), *HOLE, HOLE[0], (4, 1), (4, 3), (5, 3), (4, 1), (1, 1)]
+SQUARE = [(0, 0), (4, 0), (4, 3), (0, 3)]
+SHAPES = [[(0, 0), (4, 0), (0, 3)], SQUARE, L_SHAPE, ARROW, COMB, SEAM, TWO_HOLES]
+NO_AREA = [[(0, 0), (1, 1), (2, 2)], [(0, 0), (2, 2), (2, 0), (0, 2)], [(0, 0), (3, 1), (0, 0), (3, 1)], [(1, 2)] * 3]
+# planes whose normal has one part, or two or three of the same size
+FRAMES = [(AXES[i], AXES[j]) for i in range(3) for j in range(3) if i != j]
+FRAMES += [((1, -1, 0), (0, 0, 1)), ((1, 0, -1), (0, 1, 0)), ((0, 1, -1), (1, 0, 0)), ((1, -1, 0), (0, 1, -1)), ((1, 1, 0), (0, 1, 1))]
+
+
+def placed(shape, u, v, base=(0, 0, 0)):
+    """The corners of a flat shape, in a plane."""
+    return [x for s, t in shape for x in times(s, u, times(t, v, base))]
+
+
+def lattice():
+    """All points of a lattice, so on corners and edges too, and halfway between; all steps are exact."""
+    for shape in SHAPES:
+        for u, v in FRAMES[::2]:
+            normal = cross(*([Fraction(x) for x in w] for w in (u, v)))
+            away = draw.choice([axis for axis, part in zip(AXES, normal) if part != 0])
+            for _ in range(16):
+                point = times(draw.randint(-1, 13) / 2, u, times(draw.randint(-1, 9) / 2, v, (1, 2, -1)))
+                yield [*times(-draw.randint(1, 4), away, point), *away, *placed(shape, u, v, (1, 2, -1))]
+
+
+def scattered():
+    """Any plane and any direction: ahead, behind, with the corners turned about; the last ones at all sizes."""
+    for k in range(400):
+        shape, u, v, base, o = draw.choice(SHAPES), spread(), spread(), spread(), times(2, spread())
+        turn = draw.randrange(len(shape))
+        shape = (shape[turn:] + shape[:turn])[:: draw.choice((1, -1))]
+        point = times(draw.uniform(-0.5, 6), u, times(draw.uniform(-0.5, 4), v, base))
+        d = times(draw.choice((-0.3, 1, 1.7)), times(-1, o, point))
+        i, j = powers(2) if k >= 240 else (1, 1)
+        yield [*times(i, o), *times(j, d), *(i * x for x in placed(shape, u, v, base))]
+
+
+def convex():
+    """Of many corners, some on one line or given twice; through the middle, and about the rim."""
+    for _ in range(160):
+        u, v, base, o, count = spread(), spread(), spread(), times(2, spread()), draw.randint(3, 40)
+        shape = [(math.cos(a), math.sin(a)) for a in sorted(draw.uniform(0, 2 * math.pi) for _ in range(count))]
+        for k in range(0, count - 3, 5):
+            (a, b), (c, d) = shape[k], shape[k + 2]
+            shape[k + 1] = draw.choice(((a, b), ((a + c) / 2, (b + d) / 2)))
+        (a, b), part = draw.choice(shape), draw.choice((0, 0.5, 1))
+        yield [*o, *times(-1, o, times(part * a, u, times(part * b, v, base))), *placed(shape, u, v, base)]
+
+
+def beside_edges():
+    """Beside an edge, a corner and, by rounding, a slanted edge."""
+    for x in beside(0.0) + beside(4.0):
+        for y in beside(0.0) + beside(3.0) + [1.5]:
+            yield [x, y, -2, 0, 0, 1, *placed(SQUARE, (1, 0, 0), (0, 1, 0))]
+            yield [y, x, -2, 0, 0, 1, *placed(SQUARE, (0, 1, 0), (1, 0, 0))]
+    for y in [0.7 * k / 24 for k in range(1, 25)]:
+        yield from ([x, y, 1, 0, 0, -3, 0, 0, 0, 0.3, 0.7, 0, -0.4, 0.9, 0] for x in beside(0.3 * y / 0.7, 2))
+
+
+def degenerate():
+    """Too few reals, or no multiple of 3, also with a NaN; corners without an area; rays in the plane, along it and from it."""
+    square = placed(SQUARE, (1, 0, 0), (0, 1, 0))
+    for count in [*range(9), 10, 11, 13, 14, 16]:
+        yield from ([0, 0, -1, 0, 0, 1, *(square + square)[:count], *more] for more in ([], [NOT_FINITE[2]]))
+    for shape in NO_AREA:
+        yield from ([0.5, 0.25, 2, 0, 0, -1, *placed(shape, u, v)] for u, v in FRAMES)
+        for base in (spread(), (0, 0, LEAST)):
+            yield from ([0.5, 0.25, -2, 0, 0, z, *placed(shape, (1, 0, 0), (0, 1, 0), base)] for z in (0, 1))
+    for axis in AXES:
+        frame = [a for a in AXES if a != axis]
+        for d in (axis, axis[1:] + axis[:1], times(1e-200, axis), times(LEAST, axis), (0, 0, 0), times(-1, axis)):
+            for x in (-0.5, -2.0, 1e308):
+                yield from ([*times(x, axis, (0.5, 0.5, 0.5)), *d, *placed(SQUARE, *frame, times(y, axis))] for y in (0, -1e308))
+
+
+def sized():
+    """Huge corners, with which a product, a sum, a width or a point is infinite; tiny ones, whose products vanish or are subnormal."""
+    for far in (1e154, 1e155, 1e160, 1e300, LARGEST):
+        bands = [[(-far, 0), (far, 0), (far, 1), (-far, 1)], [(-1, -1), (1, -1), (far, 4), (-far, 4)], [(0, 0), (far, 1), (-far, 2)]]
+        for shape in [[(0, 0), (far, 0), (0, 1)], [(0, 0), (1, 0), (0, far)], *bands]:
+            for y in (0.5, -0.5, 2.0, 3.5):
+                yield [0, y, -1, 0, 0, 1, *placed(shape, (1, 0, 0), (0, 1, 0))]
+                yield [0, 0, y, 0.5, 0, 0.25, *placed(shape, (0, 0.25, 0), (0, 0, 0.5), (2, 0, 0))]
+    for size in (LEAST, 3 * LEAST, 2.0**-1022, 2.0**-540, 1e-160, 1e-100):
+        for x, y, z, w in ((1, 1, 1, size), (0.5, 0.5, 1, 1.0), (1, 0.25, 0.5, 1.0), (2, 2, 1, 2.0**500)):
+            yield from ([size * x, size * y, -2, 0, 0, z, *placed(shape, (size, 0, 0), (0, w, 0))] for shape in SHAPES[:5])
+
+
+def polygons():
+    for made in lattice, scattered, convex, beside_edges, degenerate, sized:
+        yield from made()
+    good = [0.5, 1.5, -5, 0.25, 0, 1, *placed(SQUARE, (1, 0, 0), (0, 1, 0))]
+    for i in range(len(good)):
+        yield from (good[:i] + [x] + good[i + 1 :] for x in NOT_FINITE)
+    for k in range(240):
+        yield [draw.choice(EDGES) if draw.random() < (0.1, 0.3, 0.9)[k % 3] else x for x in good]
+    yield from ([value(draw.getrandbits(64)) for _ in good] for _ in range(40))
+
+
 def cases():
-    for kind, made in ("sphere", spheres()), ("ring", rings()), ("fresnel", fresnels()), ("root", roots()):
+    for kind, made in ("sphere", spheres()), ("ring", rings()), ("fresnel", fresnels()), ("root", roots()), ("polygon", polygons()):
         yield from (" ".join([kind, *map(pattern, inputs)]) for inputs in made)
     one = pattern(1.0)  # the rest are no cases, but for four with other blanks
     words = ("", one[1:], one + "0", one[1:] + "g", one.upper(), "0x" + one[2:], one + " " + one, "\t" + one + " ")
-    yield from ("", " ", "cone " + one, "ring" + 15 * (" " + one), *("root " + word for word in words))
-    yield from (blanks * " " + "root " + one for blanks in (490, 491, 492, 4000, 0))
+    yield from ("", " ", "cone " + one, *(kind + n * (" " + one) for kind, n in (("ring", 15), ("polygon", 5), ("polygon", 127))))
+    yield from ("root " + word for word in words)
+    yield from (blanks * " " + "root " + one for blanks in (LONGEST - 22, LONGEST - 21, LONGEST - 20, 4000, 0))
 
 
 if __name__ == "__main__":

@@ -1,4 +1,4 @@
-//! How long the library takes for spheres, rings, Fresnel values and roots, beside routines in Rust on the same cases, in one run.
+//! How long the library takes for spheres, rings, polygons, Fresnel values and roots, beside routines in Rust on the same cases, in one run.
 //!
 //! There are a million cases of each, made from a seed, in a hundred rounds. In each round the contenders take turns, each time
 //! another one first, so that all meet the same state of the machine. Every time is the median of the rounds. Each round has cases
@@ -6,8 +6,9 @@
 //! with 2,000 it remembered some of a root's digits, some 5 % of the time. After each round all its answers are compared.
 //!
 //! The checked routines give the library's bits, refusals included. The plain ones know no refusals; else their answers are of the
-//! same kind. Their steps are the same but for the root, whose last place may differ: rings are equal, spheres within 1e-12 and
-//! Fresnel values within 1e-14, and with the library's root put in all are equal.
+//! same kind. Their steps are the same but for the root, whose last place may differ, and for the order in which a polygon's products
+//! are added up: rings are equal, spheres within 1e-12, polygons within 1e-9 and Fresnel values within 1e-14, and with the library's
+//! root put in all but the polygons are equal.
 //!
 //! - library: the raw calls.
 //! - checked: `reference/rays.rs`. It tests each step too, and corrects the processor's root where that was rounded up.
@@ -33,6 +34,7 @@ const SEED: u64 = 1;
 type Vector = [f64; 3];
 type RayAndSphere = ([f64; 6], [f64; 4]);
 type RayAndRing = ([f64; 6], [f64; 8]);
+type RayAndPolygon = ([f64; 6], Vec<f64>);
 
 fn between(random: &mut Random, low: f64, high: f64) -> f64 {
     low + (high - low) * random.unit()
@@ -165,6 +167,47 @@ fn ring(random: &mut Random) -> RayAndRing {
     (ray, shape)
 }
 
+/// A ray and a convex polygon of four to eight corners. Of a hundred, 60 hit it; 20 go past it, 15 leave it behind; 5 are refused,
+/// each with the same chance for an input that is not finite, a corner too far off to be multiplied, and corners on one line.
+fn polygon(random: &mut Random) -> RayAndPolygon {
+    let (centre, normal) = (point(random), direction(random));
+    let u = across(random, normal);
+    let v =
+        [normal[1] * u[2] - normal[2] * u[1], normal[2] * u[0] - normal[0] * u[2], normal[0] * u[1] - normal[1] * u[0]];
+    let (count, size, start) = (4 + random.below(5), between(random, 0.5, 5.0), between(random, 0.0, 1.0));
+    let at = |part: f64, far: f64| {
+        let angle = std::f64::consts::TAU * part;
+        plus(plus(centre, far * angle.cos(), u), far * angle.sin(), v)
+    };
+    let mut corners: Vec<f64> = (0..count).flat_map(|k| at(start + k as f64 / count as f64, size)).collect();
+    let away = loop {
+        let v = direction(random);
+        if dot(v, normal).abs() > 0.05 {
+            break v;
+        }
+    };
+    let part = random.unit();
+    // A square's sides are 0.7 of its corners' distance away
+    let (on_it, off_it) = (at(part, size * between(random, 0.0, 0.7)), at(part, size * between(random, 1.01, 3.0)));
+    let far = between(random, 0.1, 20.0);
+    let ahead = away.map(|x| -x);
+    let ray = match random.below(100) {
+        0..=59 => ray(random, plus(on_it, far, away), ahead),
+        60..=79 => ray(random, plus(off_it, far, away), ahead),
+        80..=94 => ray(random, plus(on_it, far, away), away),
+        _ => {
+            let mut ray = ray(random, plus(on_it, far, away), ahead);
+            match random.below(3) {
+                0 => ray[random.below(6)] = not_finite(random),
+                1 => corners[..3].fill(1e308),
+                _ => corners = vec![0.0, 0.0, 0.0, 1.0, 1.0, 1.0, 3.0, 3.0, 3.0],
+            }
+            ray
+        }
+    };
+    (ray, corners)
+}
+
 /// A cosine and two indices. Of a hundred, 80 have coefficients and 15 are total reflection; 5 are refused, each with the same
 /// chance for an input that is not finite, a cosine above 1, and grazing light with equal indices.
 fn fresnel(random: &mut Random) -> [f64; 3] {
@@ -216,6 +259,12 @@ fn sphere_alike((ray, sphere): &RayAndSphere) -> Kind {
 
 fn ring_alike((ray, ring): &RayAndRing) -> Kind {
     hit_alike(raw::ring(ray, ring), rays::ring(ray, ring), &[(plain::ring(ray, ring), 0.0)])
+}
+
+/// The plain routine adds the products up from another edge on, so distances differ in their last places.
+fn polygon_alike((ray, corners): &RayAndPolygon) -> Kind {
+    let plain = plain::polygon(ray, corners);
+    hit_alike(raw::polygon(ray, corners), rays::polygon(ray, corners), &[(plain, 1e-9)])
 }
 
 /// The checked routine gives the same bits in all cases, and the plain ones, each with its tolerance, the same hits and misses. What
@@ -348,6 +397,13 @@ fn main() {
         plain: |cases| time(cases, |(ray, ring)| plain::ring(ray, ring)),
     };
     report("ring", ring, ring_alike, rings);
+    let polygons: Contenders<RayAndPolygon> = Contenders {
+        library: |cases| time(cases, |(ray, corners)| raw::polygon(ray, corners)),
+        checked: |cases| time(cases, |(ray, corners)| rays::polygon(ray, corners)),
+        by_digits: None,
+        plain: |cases| time(cases, |(ray, corners)| plain::polygon(ray, corners)),
+    };
+    report("polygon", polygon, polygon_alike, polygons);
     let reflections: Contenders<[f64; 3]> = Contenders {
         library: |cases| time(cases, |&[cos1, n1, n2]| raw::fresnel(cos1, n1, n2)),
         checked: |cases| time(cases, |&[cos1, n1, n2]| rays::fresnel(cos1, n1, n2)),

@@ -56,6 +56,46 @@ pub fn ring(ray: &[f64; 6], ring: &[f64; 8]) -> Option<f64> {
     (inner * inner <= s && s <= outer * outer).then_some(t)
 }
 
+/// Where a ray hits a polygon: its corners, three reals each.
+pub fn polygon(ray: &[f64; 6], reals: &[f64]) -> Option<f64> {
+    let &[ox, oy, oz, dx, dy, dz] = ray;
+    let (o, d) = ([ox, oy, oz], [dx, dy, dz]);
+    let count = reals.len() / 3;
+    let corner = |k: usize| [reals[3 * k], reals[3 * k + 1], reals[3 * k + 2]];
+    let mut n = [0.0; 3];
+    let mut a = corner(count - 1);
+    for b in (0..count).map(corner) {
+        n = [
+            n[0] + (a[1] * b[2] - a[2] * b[1]),
+            n[1] + (a[2] * b[0] - a[0] * b[2]),
+            n[2] + (a[0] * b[1] - a[1] * b[0]),
+        ];
+        a = b;
+    }
+    let t = dot(minus(corner(0), o), n) / dot(d, n);
+    if !(t > 0.0 && t.is_finite()) {
+        return None;
+    }
+    let p = along(o, t, d);
+    let [x, y, z] = n.map(f64::abs);
+    let (g, h) = if x >= y && x >= z {
+        (1, 2)
+    } else if y >= z {
+        (0, 2)
+    } else {
+        (0, 1)
+    };
+    let mut inside = false;
+    let mut a = corner(count - 1);
+    for b in (0..count).map(corner) {
+        if (a[h] <= p[h]) != (b[h] <= p[h]) {
+            inside ^= a[g] + (p[h] - a[h]) * (b[g] - a[g]) / (b[h] - a[h]) > p[g];
+        }
+        a = b;
+    }
+    inside.then_some(t)
+}
+
 /// The square of (a-b)/(a+b).
 fn coefficient(a: f64, b: f64) -> f64 {
     let q = (a - b) / (a + b);

@@ -72,6 +72,16 @@ pub fn sphere(ray: &[f64; 6], sphere: &[f64; 4]) -> Hit {
     Ok([near, far].into_iter().find(|&t| t > 0.0))
 }
 
+/// How far along a ray meets the plane through a point with a normal.
+fn plane(o: Vector, d: Vector, c: Vector, n: Vector) -> Hit {
+    let m = dot(d, n)?;
+    if m == 0.0 {
+        return Ok(None);
+    }
+    let t = step(dot(minus(c, o)?, n)? / m)?;
+    Ok((t > 0.0).then_some(t))
+}
+
 /// Where a ray hits a ring: centre, normal, inner and outer radius.
 pub fn ring(ray: &[f64; 6], ring: &[f64; 8]) -> Hit {
     finite(ray)?;
@@ -80,18 +90,63 @@ pub fn ring(ray: &[f64; 6], ring: &[f64; 8]) -> Hit {
     let &[cx, cy, cz, nx, ny, nz, inner, outer] = ring;
     in_range(inner >= 0.0 && outer > inner)?;
     let (o, d, c, n) = ([ox, oy, oz], [dx, dy, dz], [cx, cy, cz], [nx, ny, nz]);
-    let m = dot(d, n)?;
-    if m == 0.0 {
+    let Some(t) = plane(o, d, c, n)? else {
         return Ok(None);
-    }
-    let t = step(dot(minus(c, o)?, n)? / m)?;
-    if t <= 0.0 {
-        return Ok(None);
-    }
+    };
     let w = minus(along(o, t, d)?, c)?;
     let s = dot(w, w)?;
     let (inner2, outer2) = (step(inner * inner)?, step(outer * outer)?);
     Ok((inner2 <= s && s <= outer2).then_some(t))
+}
+
+fn plus(a: Vector, b: Vector) -> Result<Vector, u32> {
+    Ok([step(a[0] + b[0])?, step(a[1] + b[1])?, step(a[2] + b[2])?])
+}
+
+fn cross(a: Vector, b: Vector) -> Result<Vector, u32> {
+    let part = |i: usize, j: usize| step(step(a[i] * b[j])? - step(a[j] * b[i])?);
+    Ok([part(1, 2)?, part(2, 0)?, part(0, 1)?])
+}
+
+/// Whether a line from p along the axis g, in the positive direction, crosses an edge; h is the other axis.
+fn is_crossed(g: usize, h: usize, p: Vector, (a, b): (Vector, Vector)) -> Result<bool, u32> {
+    let (low, high) = if a[h] < b[h] { (a, b) } else { (b, a) };
+    if p[h] < low[h] || p[h] >= high[h] {
+        return Ok(false);
+    }
+    let across = step(step(p[h] - low[h])? * step(high[g] - low[g])?)?;
+    Ok(step(low[g] + step(across / step(high[h] - low[h])?)?)? > p[g])
+}
+
+/// Where a ray hits a polygon: its corners, three reals each.
+pub fn polygon(ray: &[f64; 6], reals: &[f64]) -> Hit {
+    finite(ray)?;
+    finite(reals)?;
+    in_range(reals.len() >= 9 && reals.len() % 3 == 0)?;
+    let &[ox, oy, oz, dx, dy, dz] = ray;
+    let (o, d) = ([ox, oy, oz], [dx, dy, dz]);
+    let corners: Vec<Vector> = reals.chunks_exact(3).map(|c| [c[0], c[1], c[2]]).collect();
+    let edges: Vec<(Vector, Vector)> = corners.iter().copied().zip(corners.iter().copied().cycle().skip(1)).collect();
+    let (a, b) = edges[0];
+    let n = edges[1..].iter().try_fold(cross(a, b)?, |sum, &(a, b)| plus(sum, cross(a, b)?))?;
+    in_range(n != [0.0; 3])?;
+    let Some(t) = plane(o, d, corners[0], n)? else {
+        return Ok(None);
+    };
+    let p = along(o, t, d)?;
+    let [x, y, z] = n.map(f64::abs);
+    let (g, h) = if x >= y && x >= z {
+        (1, 2)
+    } else if y >= z {
+        (0, 2)
+    } else {
+        (0, 1)
+    };
+    let mut inside = false;
+    for edge in edges {
+        inside ^= is_crossed(g, h, p, edge)?;
+    }
+    Ok(inside.then_some(t))
 }
 
 /// The square of (a-b)/(a+b).

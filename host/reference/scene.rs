@@ -14,6 +14,8 @@ const TYPE: usize = 0;
 const MODIFIER: usize = 1;
 const NAME: usize = 3;
 const NAME_LENGTH: usize = 4;
+const REAL: usize = 7;
+const REALS: usize = 8;
 const NEXT: usize = 9;
 const LINE: usize = 10;
 
@@ -494,6 +496,8 @@ const NO_SUCH_PRIMITIVE: u32 = 17;
 const BAD_TABLE: u32 = 18;
 const USED_UP: u32 = 19;
 
+const POLYGON: u32 = 4;
+
 /// The records that a count states, from number 1 on, if the number is one of them.
 fn stated(records: &[u32], count: usize, number: usize) -> Result<&[u32], u32> {
     if count > MOST_RECORDS || count > records.len() / RECORD {
@@ -513,6 +517,13 @@ pub fn name(text: &[u8], records: &[u32], count: usize, number: usize) -> Result
         Some(name) if !name.is_empty() => Ok((place, len)),
         _ => Err(BAD_TABLE),
     }
+}
+
+/// The reals of a polygon of a table, or a refusal's number.
+pub fn corners<'r>(records: &[u32], count: usize, number: usize, reals: &'r [f64]) -> Result<&'r [f64], u32> {
+    let record = &stated(records, count, number)?[RECORD * (number - 1)..];
+    let own = reals.get(record[REAL] as usize..).and_then(|rest| rest.get(..record[REALS] as usize));
+    own.filter(|_| record[TYPE] == POLYGON).ok_or(BAD_TABLE)
 }
 
 /// The first material that a primitive's modifiers lead to, and the links to it; or a refusal's number and its count.

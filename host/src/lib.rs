@@ -25,6 +25,7 @@
 //! ```
 #![deny(missing_docs)]
 
+mod polygons;
 mod questions;
 pub mod raw;
 mod rays;
@@ -34,6 +35,7 @@ mod types;
 mod words;
 mod writing;
 
+pub use polygons::{polygon, polygon_in_table, PolygonRefusal};
 pub use questions::{finish, name, Finish, Question};
 pub use rays::{fresnel, ring, root, sphere, Ray, Reflection, Ring, Sphere, Step};
 pub use reading::{read, read_indexed, Counts, Indexed, Mode, Primitive, Reason, Refusal, Scene};

@@ -119,6 +119,17 @@ extern "C" {
     ) -> u32;
     fn kribbelsteen_sphere(ray: *const f64, sphere: *const f64, answer: *mut f64) -> u32;
     fn kribbelsteen_ring(ray: *const f64, ring: *const f64, answer: *mut f64) -> u32;
+    fn kribbelsteen_polygon(ray: *const f64, corners: *const f64, corners_len: usize, answer: *mut f64) -> u32;
+    fn kribbelsteen_polygon_in_table(
+        ray: *const f64,
+        records: *const u32,
+        records_len: usize,
+        count: usize,
+        number: usize,
+        reals: *const f64,
+        reals_len: usize,
+        answer: *mut f64,
+    ) -> u32;
     fn kribbelsteen_fresnel(cos1: f64, n1: f64, n2: f64, answer: *mut f64) -> u32;
     fn kribbelsteen_root(x: f64) -> f64;
 }
@@ -362,6 +373,35 @@ pub fn ring(ray: &[f64; 6], ring: &[f64; 8]) -> (u32, f64) {
     let mut answer = [f64::NAN];
     // SAFETY: the arrays have the lengths that the call reads and writes, and only the answer is written.
     let outcome = unsafe { kribbelsteen_ring(ray.as_ptr(), ring.as_ptr(), answer.as_mut_ptr()) };
+    (outcome, answer[0])
+}
+
+/// A ray (origin, direction) and the corners of a polygon, three doubles each: as for a sphere.
+pub fn polygon(ray: &[f64; 6], corners: &[f64]) -> (u32, f64) {
+    let mut answer = [f64::NAN];
+    // SAFETY: the arrays have the lengths that the call reads and writes, pointer and length are those of a slice, and only the answer
+    // is written.
+    let outcome = unsafe { kribbelsteen_polygon(ray.as_ptr(), corners.as_ptr(), corners.len(), answer.as_mut_ptr()) };
+    (outcome, answer[0])
+}
+
+/// A ray (origin, direction) and a polygon of a table: as for a sphere, or 17 or 18.
+pub fn polygon_in_table(ray: &[f64; 6], records: &[u32], count: usize, number: usize, reals: &[f64]) -> (u32, f64) {
+    let mut answer = [f64::NAN];
+    // SAFETY: the arrays have the lengths that the call reads and writes, each pointer and length is that of a slice, and only the
+    // answer is written.
+    let outcome = unsafe {
+        kribbelsteen_polygon_in_table(
+            ray.as_ptr(),
+            records.as_ptr(),
+            records.len(),
+            count,
+            number,
+            reals.as_ptr(),
+            reals.len(),
+            answer.as_mut_ptr(),
+        )
+    };
     (outcome, answer[0])
 }
 

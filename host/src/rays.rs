@@ -1,4 +1,4 @@
-//! Ray hits, Fresnel values and the root.
+//! Ray hits on spheres and rings, Fresnel values and the root.
 
 use crate::raw;
 use std::error::Error;
@@ -50,7 +50,7 @@ pub struct Ray {
 }
 
 impl Ray {
-    fn numbers(&self) -> [f64; 6] {
+    pub(crate) fn numbers(&self) -> [f64; 6] {
         let ([ox, oy, oz], [dx, dy, dz]) = (self.origin, self.direction);
         [ox, oy, oz, dx, dy, dz]
     }
@@ -78,7 +78,7 @@ pub struct Ring {
     pub outer: f64,
 }
 
-fn hit((outcome, distance): (u32, f64)) -> Result<Option<f64>, Step> {
+pub(crate) fn hit((outcome, distance): (u32, f64)) -> Result<Option<f64>, Step> {
     match outcome {
         0 => Ok(Some(distance)),
         1 => Ok(None),

@@ -1,6 +1,7 @@
 //! Scene texts, read into lent tables.
 
-use crate::{questions, raw, writing, Finish, Question, Type, Unwritten, Word, Words, INDEX, RECORD};
+use crate::{polygon_in_table, questions, raw, writing};
+use crate::{Finish, PolygonRefusal, Question, Ray, Type, Unwritten, Word, Words, INDEX, RECORD};
 use std::error::Error;
 use std::fmt;
 
@@ -264,6 +265,11 @@ impl<'s> Scene<'s> {
     /// The finish of the primitive of a number, with no more links followed than allowed.
     pub fn finish_within(&self, number: usize, allowance: usize) -> Result<Finish, Question> {
         questions::finish(self.records, self.counts().primitives, number, allowance)
+    }
+
+    /// The distance at which a ray hits the polygon of a number, none if it misses.
+    pub fn polygon(&self, ray: &Ray, number: usize) -> Result<Option<f64>, PolygonRefusal> {
+        polygon_in_table(ray, self.records, self.counts().primitives, number, self.reals)
     }
 
     /// Writes the scene's tidy text into a lent output, as [`write`](crate::write) does in the mode of its reading.

@@ -66,12 +66,19 @@ sphere 1 0
 sphere 21 0
 ring 0 6
 ring 1 0
+polygon 0 5
+polygon 1 0
+polygon 21 0
 fresnel 0 0.25 0.25 0.25
 fresnel 1 0 0 0
 fresnel 0 1 1 1
 fresnel 20 0 0 0
 root 1.4142135623730949
 root of -1 is none
+screen 1: 18 0
+screen 2: 0 2.5
+screen 3: 21 0
+screen 4: 17 0
 ";
 
 fn package() -> &'static Path {

@@ -1030,6 +1030,52 @@ fn rings_are_hit_alike() {
 }
 
 #[test]
+fn polygons_are_hit_alike() {
+    let mut random = random(12);
+    let mut tally = Tally::new("polygons (0 hit, 1 miss)");
+    for _ in 0..float_count() {
+        let (ray, corners) = floats::polygon(&mut random);
+        let (outcome, distance) = raw::polygon(&ray, &corners);
+        let (expected, at) = expected_hit(rays::polygon(&ray, &corners));
+        assert_eq!((outcome, distance.to_bits()), (expected, at.to_bits()), "{ray:?} {corners:?}");
+        tally.add(outcome);
+    }
+    tally.report([0, 1, 20, 21], 10_000);
+}
+
+/// A polygon put into a table among others, some numbers of which are spoiled: asked about by its number and others.
+#[test]
+fn polygons_in_tables_are_hit_alike() {
+    let mut random = random(13);
+    let mut tally = Tally::new("polygons in tables (0 hit, 1 miss)");
+    for _ in 0..float_count() / 4 {
+        let (ray, corners) = floats::polygon(&mut random);
+        let mut records = scenes::table(&mut random, 50);
+        let rows = records.len() / RECORD;
+        let at = random.below(rows + 1);
+        let mut reals = vec![1.5; random.below(6)];
+        records.splice(RECORD * at..RECORD * at, [4, 0, 0, 0, 1, 0, 0, reals.len() as u32, corners.len() as u32, 0, 1]);
+        reals.extend(&corners);
+        if random.percent(30) {
+            scenes::spoil_table(&mut random, &mut records[RECORD * at..RECORD * (at + 1)]);
+        }
+        if random.percent(10) {
+            reals.truncate(reals.len().saturating_sub(random.below(3)));
+        }
+        let count = if random.percent(80) { rows + 1 } else { stated_count(&mut random, rows + 1) };
+        for number in [at + 1, at + 1, random.below(rows + 4), usize::MAX] {
+            let (outcome, distance) = raw::polygon_in_table(&ray, &records, count, number, &reals);
+            let found = scene::corners(&records, count, number, &reals);
+            let (expected, at) = expected_hit(found.and_then(|corners| rays::polygon(&ray, corners)));
+            let shown = || format!("{number} of {count} in {records:?}, {ray:?} {reals:?}");
+            assert_eq!((outcome, distance.to_bits()), (expected, at.to_bits()), "{}", shown());
+            tally.add(outcome);
+        }
+    }
+    tally.report([0, 1, 17, 18, 20, 21], 10_000);
+}
+
+#[test]
 fn light_is_reflected_alike() {
     let mut random = random(5);
     let mut tally = Tally::new("Fresnel (0 coefficients, 1 total reflection)");

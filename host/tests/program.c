@@ -109,6 +109,7 @@ static void print_words(const char *text) {
 static void print_floats(void) {
     const double ray[6] = {0, 0, -5, 0, 0, 1}, beside[6] = {2, 0, -5, 0, 0, 1}, still[6] = {0, 0, -5, 0, 0, 0};
     const double sphere[4] = {0, 0, 0, 1}, ring[8] = {0, 0, 1, 0, 0, 1, 0, 0.5};
+    const double square[12] = {-1, -1, 0, 1, -1, 0, 1, 1, 0, -1, 1, 0};
     double answer[3];
     uint32_t kind;
     kind = kribbelsteen_sphere(ray, sphere, answer);
@@ -121,6 +122,12 @@ static void print_floats(void) {
     printf("ring %u %g\n", (unsigned)kind, answer[0]);
     kind = kribbelsteen_ring(beside, ring, answer);
     printf("ring %u %g\n", (unsigned)kind, answer[0]);
+    kind = kribbelsteen_polygon(ray, square, 12, answer);
+    printf("polygon %u %g\n", (unsigned)kind, answer[0]);
+    kind = kribbelsteen_polygon(beside, square, 12, answer);
+    printf("polygon %u %g\n", (unsigned)kind, answer[0]);
+    kind = kribbelsteen_polygon(ray, square, 11, answer);
+    printf("polygon %u %g\n", (unsigned)kind, answer[0]);
     kind = kribbelsteen_fresnel(1, 1, 3, answer);
     printf("fresnel %u %g %g %g\n", (unsigned)kind, answer[0], answer[1], answer[2]);
     kind = kribbelsteen_fresnel(0.5, 2, 1, answer);
@@ -131,6 +138,17 @@ static void print_floats(void) {
     printf("fresnel %u %g %g %g\n", (unsigned)kind, answer[0], answer[1], answer[2]);
     printf("root %.17g\n", kribbelsteen_root(2));
     printf("root of -1 is %s\n", isnan(kribbelsteen_root(-1)) ? "none" : "a number");
+}
+
+static void print_screen(const char *scene) {
+    const double ray[6] = {0.5, 0.5, -5, 0, 0, 2};
+    double answer[1];
+    size_t counts[3], number;
+    kribbelsteen_read(KRIBBELSTEEN_NEW, (const uint8_t *)scene, strlen(scene), records, ROOM * KRIBBELSTEEN_RECORD, reals, 32, counts);
+    for (number = 1; number <= counts[1] + 1; number++) {
+        uint32_t kind = kribbelsteen_polygon_in_table(ray, records, ROOM * KRIBBELSTEEN_RECORD, counts[1], number, reals, 32, answer);
+        printf("screen %zu: %u %g\n", number, (unsigned)kind, answer[0]);
+    }
 }
 
 int main(void) {
@@ -161,5 +179,8 @@ int main(void) {
     print_tidy(sample, 16);
     print_words(" void\tlight ");
     print_floats();
+    print_screen("void plastic trim 0 0 5 .2 .2 .2 0 0\n"
+                 "trim polygon screen 0 0 9 0 0 0 2 0 0 0 2 0\n"
+                 "trim polygon line 0 0 9 0 0 0 1 1 1 2 2 2\n");
     return 0;
 }

@@ -244,6 +244,36 @@ fn rays_hit_miss_and_are_refused() {
     assert_eq!(ring(&from(0.5, -3.0), &Ring { outer: 1.0, ..flat }), Err(Step::OutOfRange));
 }
 
+/// A screen with a hole, joined to its rim by an edge that is gone along twice.
+const SCREEN: &[u8] = b"void plastic trim 0 0 5 .2 .2 .2 0 0\n\
+    trim polygon screen 0 0 30 0 0 0 4 0 0 4 3 0 0 3 0 0 0 0 1 1 0 1 2 0 3 2 0 3 1 0 1 1 0\n";
+
+#[test]
+fn rays_hit_polygons() {
+    let down = |x: f64, y: f64| Ray { origin: [x, y, -5.0], direction: [0.0, 0.0, 1.0] };
+    let square = [[0.0, 0.0, 0.0], [2.0, 0.0, 0.0], [2.0, 2.0, 0.0], [0.0, 2.0, 0.0]];
+    assert_eq!(polygon(&down(1.0, 1.0), &square), Ok(Some(5.0)));
+    assert_eq!(polygon(&down(3.0, 1.0), &square), Ok(None));
+    // An edge counts at its lower end and not at its upper one
+    assert_eq!(polygon(&down(1.0, 0.0), &square), Ok(Some(5.0)));
+    assert_eq!(polygon(&down(1.0, 2.0), &square), Ok(None));
+    assert_eq!(polygon(&down(f64::NAN, 1.0), &square[..1]), Err(Step::NotFinite));
+    assert_eq!(polygon(&down(1.0, 1.0), &square[..2]), Err(Step::OutOfRange));
+    assert_eq!(polygon(&down(1.0, 1.0), &[[1.0, 2.0, 3.0]; 3]), Err(Step::OutOfRange));
+    let (mut records, mut reals) = ([9; RECORD * 2], [9.0; 35]);
+    let scene = Scene::read(Mode::New, SCREEN, &mut records, &mut reals).expect("well-formed");
+    assert_eq!(scene.polygon(&down(0.5, 0.5), 2), Ok(Some(5.0)));
+    assert_eq!(scene.polygon(&down(2.0, 1.5), 2), Ok(None));
+    assert_eq!(scene.polygon(&down(0.5, 0.5), 1), Err(PolygonRefusal::Question(Question::BadTable)));
+    assert_eq!(scene.polygon(&down(0.5, 0.5), 3), Err(PolygonRefusal::Question(Question::NoSuchPrimitive)));
+    assert_eq!(scene.polygon(&down(0.5, f64::INFINITY), 2), Err(PolygonRefusal::Step(Step::NotFinite)));
+    assert_eq!(PolygonRefusal::Step(Step::NotFinite).number(), 20);
+    assert_eq!(
+        polygon_in_table(&down(0.5, 0.5), &records, 2, 2, &reals[..34]).map_err(PolygonRefusal::number),
+        Err(18)
+    );
+}
+
 #[test]
 fn light_is_reflected() {
     let all = |x: f64| Ok(Reflection::Coefficients { te: x, tm: x, f: x });

@@ -1,4 +1,4 @@
--- Equal content; strings word by word, reals, and the five tests of what a primitive is.
+-- Equal content; strings word by word, and the five tests of what a primitive is.
 use mathlib.Core.Bool.{Bool, true, false, _&&_, and-true, and-false}
 use mathlib.Core.List.{List, [], _∷_}
 use mathlib.Core.Path.{_≡_, refl, ap, sym, _∙_}
@@ -15,7 +15,6 @@ use Rattle.keys.proofs.ScanLaws.{key-bare}
 use Rattle.keys.specs.Key.{Key, keyOf, sameKey}
 use Rattle.keys.specs.Rows.{sceneRows}
 use Rattle.laws.proofs.BytesLaws.{same-refl}
-use Rattle.laws.proofs.ListLaws.{cut-part}
 use Rattle.laws.specs.Bytes.{Bytes, same}
 use Rattle.lexer.specs.Word.{wordBytes, wordEnd}
 use Rattle.scene.specs.Record.{recordIn}
@@ -80,12 +79,6 @@ words-count a b i j zero zero h = absurd (h refl)
 words-count a b i j zero (suc m) h = refl
 words-count a b i j (suc n) zero h = refl
 words-count a b i j (suc n) (suc m) h = rw (words-count a b (wordEnd a i) (wordEnd b j) n m (λ e. h (ap suc e))) (and-false (same (wordBytes a i) (wordBytes b j)))
-
--- ---- reals
-
--- reals whose start and count are cut to what the table has
-pub cut-reals : (reals : List Float) (records : List ℕ) (n first many start size : ℕ) → first ≡ recordIn records n .real → many ≡ recordIn records n .reals → start ≡ min first (length reals) → size ≡ min many (length reals - start) → take (start + size - start) (drop start reals) ≡ realsOf reals (recordIn records n)
-cut-reals reals records n first many start size f m s e = cut-part reals first many start size s e ∙ (λ i. take (m i) (drop (f i) reals))
 
 -- ---- what two primitives are
 

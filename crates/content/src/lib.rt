@@ -11,8 +11,6 @@ ghost use Rattle.content.specs.Content.{contentIn, sameButLinks, sameCon
 ghost use Rattle.scene.specs.Told.{realsOf, stringsOf};
 use table::KIND;
 use table::MODIFIER;
-use table::REAL;
-use table::REALS;
 use table::STRING;
 use table::STRINGS;
 use table::TARGET;
@@ -61,17 +59,6 @@ fn same_strings(
     same_words(a, i, b, j, many)
 }
 
-// The reals of record n: those of them that the table has.
-fn reals_of<'a>(records: &[u32], reals: &'a [f64], n: usize) -> &'a [f64]
-    ensures { λ r. ⌜ now r ≡ realsOf (now (reals .entry)) (recordIn (now (records .entry)) n) ⌝ }
-{
-    let first = number(records, n, REAL);
-    let many = number(records, n, REALS);
-    let start = lexer::least(first, reals.len());
-    let end = start + lexer::least(many, reals.len() - start);
-    &reals[start..end]
-}
-
 // Whether number m of one scene and number n of another have the same reals.
 pub fn same_reals(
     a_records: &[u32],
@@ -84,8 +71,8 @@ pub fn same_reals(
     ensures { λ r. ⌜ r ≡ sameReals (realsOf (now («a_reals» .entry)) (recordIn (now («a_records» .entry)) m)) (realsOf (now («b_reals» .entry)) (recordIn (now («b_records» .entry)) n)) ⌝ }
 {
     bits::same_bits(
-        reals_of(a_records, a_reals, m),
-        reals_of(b_records, b_reals, n),
+        table::reals_of(a_records, a_reals, m),
+        table::reals_of(b_records, b_reals, n),
     )
 }
 

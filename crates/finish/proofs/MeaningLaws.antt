@@ -9,19 +9,16 @@ use borrow.Author.Tests.{le-leb, lt-ltb, not-true}
 use lib.ListN.{replicate, length, length-append}
 use Rattle.laws.specs.Bytes.{Bytes, same}
 use Rattle.finish.specs.Meaning.{finishIn}
-use Rattle.table.specs.Question.{numberRefusal}
+use Rattle.table.proofs.ImageLaws.{image-row, number-fine}
 use Rattle.table.specs.View.{viewOf}
 use Rattle.finish.specs.Walk.{numbersOf, atLink, atType, walkFrom, finishOf}
 use Rattle.finish.specs.declared.Finish.{Finish}
 use Rattle.finish.specs.declared.Finish.the-variants.{Reached, Refused}
-use Rattle.scene.proofs.AcceptLaws.{accept-forth}
-use Rattle.scene.proofs.FlatLaws.{record-in, flat-length}
 use Rattle.scene.proofs.GivesLaws.{gives-by-type}
 use Rattle.scene.proofs.MeaningLaws.{IsType, Meant, AllMeant, meant-split, accepted-meant, NoSurface, not-surface, alias-type}
 use Rattle.scene.proofs.PropertyLaws.{accepted-linked}
-use Rattle.scene.proofs.RoomLaws.{fit-forth}
 use Rattle.scene.proofs.SwapLaws.{Linked, hits-true, linked-split}
-use Rattle.scene.proofs.TellsLaws.{records-length, nth-at, split-statements, statements-length}
+use Rattle.scene.proofs.TellsLaws.{nth-at, split-statements, statements-length}
 use Rattle.scene.specs.Links.{gives, hits, found, head, definition, latest, modifierLink, ownBody, typeIn}
 use Rattle.scene.specs.Reading.{Reading, Entry, statements, modifierTest, accepted, read}
 use Rattle.scene.specs.Record.{flat, settingsFor, Record, recordIn, recordOf, records, recordImage, nth, width}
@@ -188,30 +185,14 @@ own-type r text es reads later s earlier q = go (s .body) refl
     go (alias x) b = let h = subst (λ (z : Body). NoSurface (typeIn (ownBody z earlier))) b (alias-type r text es reads later s earlier q x b) in (omega (arith, h .0), h .1)
 
 module _ (r : Settings) (text : Bytes) (es : List Entry) (reads : read r text ≡ accepted es) (m : ℕ) (l : List Entry) (e : Entry) (x : List Entry) (q : es ≡ l ++ e ∷ x) where
-  image-row : (n : ℕ) → recordIn (recordImage text m (read r text)) n ≡ nth (records es) n
-  unfolding recordImage
-  image-row n = ap (λ (z : Reading). recordIn (recordImage text m z) n) reads ∙ record-in text (records es) m n
-
   -- the walk from a primitive of the table, with an allowance of all before it, is the walk from its statement
   walk-means : (left k : ℕ) → length x ≤ left → walkFrom (viewOf (recordImage text m (read r text))) left k (suc (length x)) ≡ finishIn (e .statement .modifier) (statements x) k
-  walk-means left k h = walk-from es (recordImage text m (read r text)) image-row (accepted-linked r text es reads) (own-type r text es reads) left k l e x q h
-
-  image-length : length es * width ≤ length (recordImage text m (read r text))
-  unfolding recordImage records
-  image-length = subst (λ (z : Reading). length es * width ≤ length (recordImage text m z)) (sym reads) (omega (arith, length-append (flat text (records es)) (replicate (m - length (flat text (records es))) 0), flat-length text (records es), records-length [] es))
-
-  -- a primitive of the table can be asked about, where the room was document 01's
-  number-fine : r .records ≤ 1024 → numberRefusal (recordImage text m (read r text)) (length es) (suc (length x)) ≡ 0
-  unfolding numberRefusal
-  number-fine c = rw (le-leb (length es) 1024 few, le-leb (length es * width) (length (recordImage text m (read r text))) image-length, le-leb 1 (suc (length x)) (omega arith), le-leb (suc (length x)) (length es) (omega (arith, ap length q, length-append l (e ∷ x))))
-    where
-      few : length es ≤ 1024
-      few = omega (arith, fit-forth r (statements es) ((accept-forth r text es reads) .2) .1, statements-length es)
+  walk-means left k h = walk-from es (recordImage text m (read r text)) (image-row r text es reads m) (accepted-linked r text es reads) (own-type r text es reads) left k l e x q h
 
   -- the question's answer is the walk from its statement
   finish-means : (allowance : ℕ) → r .records ≤ 1024 → length x ≤ allowance → finishOf (recordImage text m (read r text)) (length es) (suc (length x)) allowance ≡ finishIn (e .statement .modifier) (statements x) 0
   unfolding finishOf
-  finish-means allowance c h = rw (number-fine c) (walk-means allowance 0 h)
+  finish-means allowance c h = rw (number-fine r text es reads m l e x q c) (walk-means allowance 0 h)
 
 -- the same of the tables lent to the reader; it refuses nothing
 module _ (mode : Mode) (text : Bytes) (lent doubles : ℕ) (es : List Entry) (reads : read (settingsFor mode lent doubles) text ≡ accepted es) (l : List Entry) (e : Entry) (x : List Entry) (q : es ≡ l ++ e ∷ x) (allowance : ℕ) (enough : length x ≤ allowance) where

@@ -19,7 +19,7 @@ fn vector(x: f64, y: f64, z: f64) -> Vector
     Vector { x, y, z }
 }
 
-fn ray_in(a: &[f64; 6]) -> Ray
+pub fn ray_in(a: &[f64; 6]) -> Ray
     ensures { λ r. ⌜ r ≡ rayIn (now (a .entry)) ⌝ }
 {
     Ray {
@@ -49,7 +49,7 @@ fn ring_in(a: &[f64; 8]) -> Ring
 }
 
 // Tells a hit: its kind, and the distance.
-fn tell_hit(hit: Hit, answer: &mut [f64; 1]) -> u32
+pub fn tell_hit(hit: Hit, answer: &mut [f64; 1]) -> u32
     ensures { λ r. ⌜ r ≡ hitKind (outcomeOf hit) ⌝ }
     ensures { λ r. ⌜ now (answer .exit) ≡ hitValues (outcomeOf hit) ⌝ }
 {

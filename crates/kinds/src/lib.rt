@@ -26,7 +26,7 @@ const SPHERE: u32 = 2;
 
 const BUBBLE: u32 = 3;
 
-const POLYGON: u32 = 4;
+pub const POLYGON: u32 = 4;
 
 const CONE: u32 = 5;
 

@@ -1,5 +1,6 @@
 // The entry points for host programs, under C's calling convention: numbers, slices and small arrays, no precondition. Each is
-// the call of the same promise in `host_scenes`, `host_saves`, `host_lines`, `host_writing`, `host_rays`, `ranks` or `root`.
+// the call of the same promise in `host_scenes`, `host_saves`, `host_lines`, `host_writing`, `host_rays`,
+// `host_polygon`, `ranks` or `root`.
 ghost use mathlib.Core.Path.{_≡_};
 ghost use lib.ListN.{length, replicate};
 ghost use Rattle.finish.specs.Question.{nameRefusal};
@@ -13,8 +14,10 @@ ghost use Rattle.host_saves.specs.Host.{HostReadsBoth};
 ghost use Rattle.host_scenes.specs.Host.{HostReads, HostReadsIndexed, finishReason, finishValues, namePart, wordValues};
 ghost use Rattle.host_writing.specs.Host.{HostWrites};
 ghost use Rattle.ordered.specs.Lines.{scene};
+ghost use Rattle.polygon.specs.Polygon.{polygonHit};
 ghost use Rattle.ranks.specs.Rank.{orderTable};
 ghost use Rattle.root.specs.Root.{rootOf};
+ghost use Rattle.table_polygon.specs.InTable.{hitInTable};
 
 // Reads a scene: the reason or 0, and place, primitives, reals.
 #[no_mangle]
@@ -211,6 +214,35 @@ pub extern "C" fn kribbelsteen_ring(ray: &[f64; 6], ring: &[f64; 8], answer: &mu
     ensures { λ r. ⌜ now (answer .exit) ≡ hitValues (ringHit (rayIn (now (ray .entry))) (ringIn (now (ring .entry)))) ⌝ }
 {
     host_rays::tell_ring(ray, ring, answer)
+}
+
+// A ray on a polygon: 0 hit, 1 miss, or the refusal's number, and the distance.
+#[no_mangle]
+pub extern "C" fn kribbelsteen_polygon(
+    ray: &[f64; 6],
+    corners: &[f64],
+    answer: &mut [f64; 1],
+) -> u32
+    ensures { λ r. ⌜ r ≡ hitKind (polygonHit (rayIn (now (ray .entry))) (now (corners .entry))) ⌝ }
+    ensures { λ r. ⌜ now (answer .exit) ≡ hitValues (polygonHit (rayIn (now (ray .entry))) (now (corners .entry))) ⌝ }
+{
+    host_polygon::tell_polygon(ray, corners, answer)
+}
+
+// A ray on a polygon of a table: 0 hit, 1 miss, or the refusal's number, and the distance.
+#[no_mangle]
+pub extern "C" fn kribbelsteen_polygon_in_table(
+    ray: &[f64; 6],
+    records: &[u32],
+    count: usize,
+    number: usize,
+    reals: &[f64],
+    answer: &mut [f64; 1],
+) -> u32
+    ensures { λ r. ⌜ r ≡ hitKind (hitInTable (rayIn (now (ray .entry))) (now (records .entry)) count number (now (reals .entry))) ⌝ }
+    ensures { λ r. ⌜ now (answer .exit) ≡ hitValues (hitInTable (rayIn (now (ray .entry))) (now (records .entry)) count number (now (reals .entry))) ⌝ }
+{
+    host_polygon::tell_in_table(ray, records, count, number, reals, answer)
 }
 
 // Fresnel's coefficients: 0 for coefficients, 1 total reflection, or the refusal's number, and FTE, FTM, F.

@@ -16,10 +16,10 @@ use Rattle.laws.proofs.BoolLaws.{or-false-left}
 use Rattle.laws.specs.Runs.{all}
 use Rattle.steps.specs.Vectors.{along, finiteVector}
 use Rattle.steps.specs.declared.Vector.{Vector}
-use Rattle.polygon.specs.Code.{axisOf, crossedOf, when}
-use Rattle.polygon.specs.Corners.{Edge, cornersOf, edgesOf}
-use Rattle.polygon.specs.Crossing.{Crossed, inside}
-use Rattle.polygon.specs.Normal.{dropped, isZero, normalOf}
+use Rattle.edges.specs.Code.{axisOf, crossedOf, when}
+use Rattle.edges.specs.Corners.{Edge, cornersOf, edgesOf}
+use Rattle.edges.specs.Crossing.{Crossed, inside}
+use Rattle.edges.specs.Normal.{dropped, isZero, normalOf}
 use Rattle.polygon.specs.Polygon.{atCrossings, onCorners, onPolygon, polygonHit, withinPolygon}
 
 -- ---- at the distance t

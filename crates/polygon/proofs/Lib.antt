@@ -1,4 +1,2 @@
-pub mod CrossLaws
-pub mod CodeLaws
 pub mod EdgeLaws
 pub mod HitLaws

@@ -13,9 +13,9 @@ use Rattle.hits.specs.declared.Ray.{Ray}
 use Rattle.laws.specs.Runs.{all}
 use Rattle.steps.specs.Vectors.{along, finiteVector}
 use Rattle.steps.specs.declared.Vector.{Vector}
-use Rattle.polygon.specs.Corners.{Edge, cornersOf, edgesOf}
-use Rattle.polygon.specs.Crossing.{Crossed, inside}
-use Rattle.polygon.specs.Normal.{dropped, isZero, normalOf}
+use Rattle.edges.specs.Corners.{Edge, cornersOf, edgesOf}
+use Rattle.edges.specs.Crossing.{Crossed, inside}
+use Rattle.edges.specs.Normal.{dropped, isZero, normalOf}
 
 -- what the crossings come to, at the distance t
 abbrev pub atCrossings : (t : Float) → Crossed → Outcome

@@ -1,5 +1,5 @@
-// The answer to each case on standard input: a ray at a sphere or a ring, a Fresnel value or a root. A case is a line: its
-// kind, and the bits of its doubles in hex.
+// The answer to each case on standard input: a ray at a sphere, a ring or a polygon, a Fresnel value or a root. A case is a line:
+// its kind, and the bits of its doubles in hex.
 use fresnel::Reflection;
 use hits::Hit;
 use hits::Ray;
@@ -10,11 +10,11 @@ use libc::STDOUT_FILENO;
 use steps::Vector;
 ghost use Prim.Native.Nat.{_+_, _≤_};
 
-// A ring has the most.
-const NUMBERS: usize = 14;
+// A polygon of 40 corners has the most.
+const NUMBERS: usize = 126;
 
-// Enough for a ring, whose line has 242 bytes.
-const LINE: usize = 512;
+// Enough for it, whose line has 2,149 bytes.
+const LINE: usize = 2304;
 
 enum Pattern {
     Bits(u64),
@@ -81,7 +81,7 @@ fn read_numbers(line: &[u8], at: usize, numbers: &mut [f64; NUMBERS]) -> usize {
 }
 
 fn vector(numbers: &[f64; NUMBERS], from: usize) -> Vector
-    requires { ⌜ from + 3 ≤ 14 ⌝ }
+    requires { ⌜ from + 3 ≤ 126 ⌝ }
 {
     Vector {
         x: numbers[from],
@@ -156,11 +156,27 @@ fn print_reflection(reflection: Reflection) {
     }
 }
 
+// The numbers behind the ray are the corners.
+fn print_polygon(numbers: &[f64; NUMBERS], count: usize) {
+    if count < 6 {
+        print(b"bad");
+        return;
+    }
+    if NUMBERS < count {
+        print(b"bad");
+        return;
+    }
+    let all = &numbers[..];
+    print_hit(polygon::polygon_hit(ray(numbers), &all[6..count]));
+}
+
 fn print_answer(kind: &[u8], numbers: &[f64; NUMBERS], count: usize) {
     if (count == 10) & lexer::same(kind, b"sphere") {
         print_hit(hits::sphere_hit(ray(numbers), sphere(numbers)));
     } else if (count == 14) & lexer::same(kind, b"ring") {
         print_hit(hits::ring_hit(ray(numbers), ring(numbers)));
+    } else if lexer::same(kind, b"polygon") {
+        print_polygon(numbers, count);
     } else if (count == 3) & lexer::same(kind, b"fresnel") {
         print_reflection(fresnel::fresnel(numbers[0], numbers[1], numbers[2]));
     } else if (count == 1) & lexer::same(kind, b"root") {

@@ -1,11 +1,14 @@
 -- Laws of the questions to a table: one for each answer.
 use mathlib.Core.List.{List}
 use mathlib.Core.Path.{_≡_, refl, sym, ap, _∙_}
-use Prim.Native.Nat.{ℕ, zero, suc, _+_, _*_, _-_, _≤_, _<_}
+use Prim.Native.Nat.{ℕ, zero, suc, _+_, _*_, _-_, _≤_, _<_, min}
 use native.Mathlib.Omega.{arith}
 use borrow.Author.Tests.{le-leb, lt-leb, le-ltb, lt-ltb}
-use lib.ListN.{length, getD, List·getD-eq-default}
+use lib.Ieee.{Float}
+use lib.ListN.{length, take, drop, getD, List·getD-eq-default}
+use Rattle.laws.proofs.ListLaws.{cut-part}
 use Rattle.scene.specs.Record.{fieldIn, recordIn, width}
+use Rattle.scene.specs.Told.{realsOf}
 use Rattle.table.specs.Question.{numberRefusal}
 
 -- ---- the numbers of a record
@@ -57,6 +60,12 @@ module _ (table : List ℕ) (n : ℕ) where
   pub reals-field : fieldIn table n 8 ≡ recordIn table n .reals
   unfolding fieldIn recordIn
   reals-field = refl
+
+-- ---- the reals of a record
+
+-- reals whose start and count are cut to what the table has
+pub cut-reals : (reals : List Float) (records : List ℕ) (n first many start size : ℕ) → first ≡ recordIn records n .real → many ≡ recordIn records n .reals → start ≡ min first (length reals) → size ≡ min many (length reals - start) → take (start + size - start) (drop start reals) ≡ realsOf reals (recordIn records n)
+cut-reals reals records n first many start size f m s e = cut-part reals first many start size s e ∙ (λ i. take (m i) (drop (f i) reals))
 
 -- ---- whether a primitive can be asked about
 

@@ -3,7 +3,8 @@ ghost use mathlib.Core.Path.{_≡_};
 ghost use Prim.Native.Nat.{_*_, _/_, min};
 ghost use lib.ListN.{getD, length, replicate, take};
 ghost use Rattle.scene.specs.HouseRules.{zeroReal};
-ghost use Rattle.scene.specs.Record.{fieldIn, nameIn, settingsFor, width};
+ghost use Rattle.scene.specs.Record.{fieldIn, nameIn, recordIn, settingsFor, width};
+ghost use Rattle.scene.specs.Told.{realsOf};
 ghost use Rattle.table.specs.Question.{numberRefusal};
 use scene::Mode;
 use scene::Settings;
@@ -84,6 +85,17 @@ pub fn real_at(reals: &[f64], i: usize) -> f64
     ensures { λ r. ⌜ r ≡ getD (now (reals .entry)) i zeroReal ⌝ }
 {
     if i < reals.len() { reals[i] } else { 0.0 }
+}
+
+// The reals of record n: those of them that the table has.
+pub fn reals_of<'a>(records: &[u32], reals: &'a [f64], n: usize) -> &'a [f64]
+    ensures { λ r. ⌜ now r ≡ realsOf (now (reals .entry)) (recordIn (now (records .entry)) n) ⌝ }
+{
+    let first = field(records, n, REAL) as usize;
+    let many = field(records, n, REALS) as usize;
+    let start = lexer::least(first, reals.len());
+    let end = start + lexer::least(many, reals.len() - start);
+    &reals[start..end]
 }
 
 // The name of record n: what the text has of the part that the record names.

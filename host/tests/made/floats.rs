@@ -1,4 +1,4 @@
-//! Doubles for rays, reflections and roots: ordinary, grazing, huge, tiny, subnormal, NaN and infinite.
+//! Doubles for rays, shapes, reflections and roots: ordinary, grazing, huge, tiny, subnormal, NaN and infinite.
 
 use crate::reference::random::Random;
 
@@ -178,6 +178,127 @@ pub fn ring(random: &mut Random) -> ([f64; 6], [f64; 8]) {
     }
     let [a, b, c, d, e, f, shape @ ..] = disturbed(random, [a, b, c, d, e, f, x, y, z, u, v, w, inner, outer]);
     ([a, b, c, d, e, f], shape)
+}
+
+type Flat = [(f64, f64)];
+
+const TRIANGLE: &Flat = &[(0.0, 0.0), (4.0, 0.0), (0.0, 3.0)];
+const RECTANGLE: &Flat = &[(0.0, 0.0), (4.0, 0.0), (4.0, 3.0), (0.0, 3.0)];
+const ANGLE: &Flat = &[(0.0, 0.0), (4.0, 0.0), (4.0, 1.0), (1.0, 1.0), (1.0, 3.0), (0.0, 3.0)];
+const ARROW: &Flat = &[(0.0, 0.0), (4.0, 2.0), (0.0, 3.0), (1.0, 2.0)];
+/// A hole, joined to the rim by an edge that is gone along twice.
+const HOLE: &Flat = &[
+    (0.0, 0.0),
+    (4.0, 0.0),
+    (4.0, 3.0),
+    (0.0, 3.0),
+    (0.0, 0.0),
+    (1.0, 1.0),
+    (1.0, 2.0),
+    (3.0, 2.0),
+    (3.0, 1.0),
+    (1.0, 1.0),
+];
+/// Without an area: on one line, and crossing itself.
+const LINE: &Flat = &[(0.0, 0.0), (1.0, 1.0), (3.0, 3.0)];
+const BOW: &Flat = &[(0.0, 0.0), (2.0, 2.0), (2.0, 0.0), (0.0, 2.0)];
+
+/// A point of a plane, given by a point and two directions.
+fn placed((s, t): (f64, f64), [base, u, v]: &[[f64; 3]; 3]) -> [f64; 3] {
+    std::array::from_fn(|k| base[k] + s * u[k] + t * v[k])
+}
+
+/// A plane: along two axes, along two of few small directions, or any. In the first two all steps may be exact, and parts of the
+/// normal may be of the same size.
+fn plane(random: &mut Random) -> [[f64; 3]; 3] {
+    match random.below(4) {
+        0 => {
+            let mut frame = [[0.0; 3]; 3];
+            let first = random.below(3);
+            frame[1][first] = 1.0;
+            frame[2][(first + random.within(1, 2)) % 3] = 1.0;
+            frame[0] = all(random, small_whole);
+            frame
+        }
+        1 => [all(random, small_whole), all(random, sign), all(random, sign)],
+        _ => std::array::from_fn(|_| all(random, |random| around(random, 10.0))),
+    }
+}
+
+fn sign(random: &mut Random) -> f64 {
+    random.below(3) as f64 - 1.0
+}
+
+/// A flat shape: one of those above, or convex with up to 20 corners on a circle.
+fn flat(random: &mut Random) -> Vec<(f64, f64)> {
+    let shapes = [TRIANGLE, RECTANGLE, ANGLE, ARROW, HOLE, HOLE, LINE, BOW];
+    if random.percent(70) {
+        let mut corners = random.pick(&shapes).to_vec();
+        let turn = random.below(corners.len());
+        corners.rotate_left(turn);
+        if random.percent(50) {
+            corners.reverse();
+        }
+        return corners;
+    }
+    let mut angles: Vec<f64> = (0..random.within(3, 20)).map(|_| random.unit() * 6.28).collect();
+    angles.sort_by(f64::total_cmp);
+    angles.into_iter().map(|angle| (2.0 + 2.0 * angle.cos(), 1.5 + 1.5 * angle.sin())).collect()
+}
+
+/// A ray and the reals of a polygon.
+pub fn polygon(random: &mut Random) -> ([f64; 6], Vec<f64>) {
+    if random.percent(15) {
+        let many: [f64; 24] = wild(random);
+        let count = if random.percent(80) { 3 * random.within(3, 8) } else { random.below(25) };
+        return (wild(random), many[..count].to_vec());
+    }
+    let (shape, frame) = (flat(random), plane(random));
+    // A point on a lattice, where corners and edges are, or any
+    let (s, t) = match random.below(3) {
+        0 => (random.below(10) as f64 / 2.0 - 0.5, random.below(8) as f64 / 2.0 - 0.5),
+        1 => (random.unit() * 5.0 - 0.5, random.unit() * 4.0 - 0.5),
+        _ => *random.pick(&shape),
+    };
+    let aim = placed((s, t), &frame);
+    let mut corners: Vec<f64> = shape.iter().flat_map(|&corner| placed(corner, &frame)).collect();
+    let mut ray = match random.below(3) {
+        0 => {
+            // Along an axis, all exact for small numbers
+            let mut d = [0.0; 3];
+            d[random.below(3)] = 1.0;
+            let away = random.within(1, 4) as f64;
+            ray_at(std::array::from_fn(|k| aim[k] - away * d[k]), aim, 1.0)
+        }
+        1 => ray_at(std::array::from_fn(|_| around(random, 20.0)), aim, random.unit() + 0.1),
+        _ => ray_at(all(random, small_whole), aim, *random.pick(&[-1.0, 0.5, 1.0])),
+    };
+    match random.below(20) {
+        0 => ray[random.below(6)] = special(random),
+        1 | 2 => *random_of(random, &mut corners) = special(random),
+        3 => *random_of(random, &mut corners) = of_any_size(random),
+        4 | 5 => {
+            let x = random_of(random, &mut corners);
+            *x = nudged(random, *x);
+        }
+        6 => {
+            let (k, m) = far_apart(random);
+            ray[..3].iter_mut().chain(&mut corners).for_each(|x| *x *= k);
+            ray[3..].iter_mut().for_each(|x| *x *= m);
+        }
+        7..=9 => {
+            let scale = 2_f64.powi(random.within(0, 2000) as i32 - 1000);
+            ray.iter_mut().chain(&mut corners).for_each(|x| *x *= scale);
+        }
+        10 => corners.truncate(random.below(12)),
+        _ => {}
+    }
+    (ray, corners)
+}
+
+fn random_of<'a>(random: &mut Random, numbers: &'a mut [f64]) -> &'a mut f64 {
+    let at = random.below(numbers.len());
+    &mut numbers[at]
 }
 
 /// A cosine and two indices.

@@ -1,3 +1,4 @@
+-- `polygon::all_finite` meets its contract.
 use mathlib.Core.Path.{_≡_, sym, _∙_}
 use Prim.Native.Nat.{_-_}
 use borrow.Author.Tests.{not-false, not-true}
@@ -5,7 +6,6 @@ use lib.Ieee.Scale.{finite}
 use lib.ListN.{drop, length}
 use Rattle.laws.specs.Runs.{all}
 use Rattle.polygon.proofs.EdgeLaws.{all-end, all-on, all-stop}
--- `polygon::all_finite` meets its contract.
 use borrow.Author.Needs.{needs}
 use Rattle.polygon.proofs.all_finite.Statement.{statement}
 use Rattle.polygon.proofs.all_finite.Tie as tie

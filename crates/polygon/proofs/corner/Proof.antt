@@ -1,5 +1,5 @@
-use Rattle.polygon.proofs.EdgeLaws.{corner-there}
 -- `polygon::corner` meets its contract.
+use Rattle.polygon.proofs.EdgeLaws.{corner-there}
 use borrow.Author.Needs.{needs}
 use Rattle.polygon.proofs.corner.Statement.{statement}
 use Rattle.polygon.proofs.corner.Tie as tie

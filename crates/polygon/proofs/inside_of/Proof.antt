@@ -1,3 +1,4 @@
+-- `polygon::inside_of` meets its contract.
 use mathlib.Core.Bool.{Bool}
 use mathlib.Core.Path.{ap, sym, _∙_}
 use Prim.Native.Nat.{_*_, _-_, _≤_}
@@ -5,8 +6,7 @@ use native.Mathlib.Omega.{arith}
 use borrow.Author.Tests.{not-false, not-true}
 use lib.ListN.{length, length-drop}
 use Rattle.polygon.proofs.EdgeLaws.{Crosses, corners-end, crosses-first, crosses-last, crosses-more, crosses-not}
-use Rattle.polygon.specs.Code.{axisOf, when}
--- `polygon::inside_of` meets its contract.
+use Rattle.edges.specs.Code.{axisOf, when}
 use borrow.Author.Needs.{needs}
 use Rattle.polygon.proofs.inside_of.Statement.{statement}
 use Rattle.polygon.proofs.inside_of.Tie as tie

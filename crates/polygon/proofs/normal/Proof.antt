@@ -1,8 +1,8 @@
+-- `polygon::normal` meets its contract.
 use Prim.Native.Nat.{_*_, _-_, _≤_}
 use native.Mathlib.Omega.{arith}
 use lib.ListN.{length, length-drop}
 use Rattle.polygon.proofs.EdgeLaws.{Adds, adds-first, adds-last, adds-more, corners-end}
--- `polygon::normal` meets its contract.
 use borrow.Author.Needs.{needs}
 use Rattle.polygon.proofs.normal.Statement.{statement}
 use Rattle.polygon.proofs.normal.Tie as tie

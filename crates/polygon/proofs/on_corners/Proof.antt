@@ -1,12 +1,12 @@
+-- `polygon::on_corners` meets its contract.
 use mathlib.Core.Path.{ap, sym, _∙_}
 use native.Mathlib.Omega.{arith}
 use Rattle.hits.specs.Outcome.{outcomeOf}
 use Rattle.hits.specs.declared.Hit.{Hit}
 use Rattle.polygon.proofs.EdgeLaws.{corner-there}
 use Rattle.polygon.proofs.HitLaws.{corners-20, corners-21, corners-on}
-use Rattle.polygon.specs.Corners.{cornersOf, edgesOf}
+use Rattle.edges.specs.Corners.{cornersOf, edgesOf}
 use Rattle.polygon.specs.Polygon.{withinPolygon}
--- `polygon::on_corners` meets its contract.
 use borrow.Author.Needs.{needs}
 use Rattle.polygon.proofs.on_corners.Statement.{statement}
 use Rattle.polygon.proofs.on_corners.Tie as tie

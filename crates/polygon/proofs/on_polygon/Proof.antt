@@ -1,13 +1,13 @@
+-- `polygon::on_polygon` meets its contract.
 use mathlib.Core.Bool.{Bool}
 use mathlib.Core.Path.{ap, sym, _∙_}
 use borrow.Author.Tests.{not-false, not-true}
 use Rattle.polygon.proofs.HitLaws.{point-20, point-on}
-use Rattle.polygon.specs.Code.{when}
-use Rattle.polygon.specs.Corners.{cornersOf, edgesOf}
-use Rattle.polygon.specs.Crossing.{inside}
-use Rattle.polygon.specs.Normal.{Axis}
+use Rattle.edges.specs.Code.{when}
+use Rattle.edges.specs.Corners.{cornersOf, edgesOf}
+use Rattle.edges.specs.Crossing.{inside}
+use Rattle.edges.specs.Normal.{Axis}
 use Rattle.polygon.specs.Polygon.{atCrossings}
--- `polygon::on_polygon` meets its contract.
 use borrow.Author.Needs.{needs}
 use Rattle.polygon.proofs.on_polygon.Statement.{statement}
 use Rattle.polygon.proofs.on_polygon.Tie as tie

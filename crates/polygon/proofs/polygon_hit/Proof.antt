@@ -1,7 +1,7 @@
+-- `polygon::polygon_hit` meets its contract.
 use mathlib.Core.Path.{_∙_}
 use native.Mathlib.Omega.{arith}
 use Rattle.polygon.proofs.HitLaws.{enough, inputs-20, inputs-21, inputs-on}
--- `polygon::polygon_hit` meets its contract.
 use borrow.Author.Needs.{needs}
 use Rattle.polygon.proofs.polygon_hit.Statement.{statement}
 use Rattle.polygon.proofs.polygon_hit.Tie as tie

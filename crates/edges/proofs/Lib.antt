@@ -1,0 +1,2 @@
+pub mod CrossLaws
+pub mod CodeLaws

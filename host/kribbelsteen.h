@@ -72,11 +72,11 @@ enum kribbelsteen_reason {
     KRIBBELSTEEN_HOUSE_RULE = 16,       /* breaks a house rule (the real that completes the breach) */
     KRIBBELSTEEN_INDEX_TOO_SMALL = 24,  /* kribbelsteen_read_indexed: the index has under 2,048 entries (0) */
     KRIBBELSTEEN_RETIRED_TYPE = 28,     /* antimatter, in the new reading (type) */
-    /* kribbelsteen_name, kribbelsteen_finish and kribbelsteen_polygon_in_table */
+    /* questions to a table: kribbelsteen_name, kribbelsteen_finish and kribbelsteen_polygon_in_table */
     KRIBBELSTEEN_NO_SUCH_PRIMITIVE = 17,
     KRIBBELSTEEN_BAD_TABLE = 18,
     KRIBBELSTEEN_ALLOWANCE = 19,
-    /* kribbelsteen_sphere, kribbelsteen_ring, kribbelsteen_polygon, kribbelsteen_polygon_in_table and kribbelsteen_fresnel */
+    /* hits and kribbelsteen_fresnel */
     KRIBBELSTEEN_NOT_FINITE = 20,
     KRIBBELSTEEN_OUT_OF_RANGE = 21,
     /* kribbelsteen_write */
@@ -233,39 +233,53 @@ uint32_t kribbelsteen_next_ordered(const uint8_t *left, size_t left_len, const u
 uint32_t kribbelsteen_write(uint32_t mode, const uint8_t *text, size_t text_len, const uint32_t *records, size_t records_len,
                             const double *reals, size_t reals_len, uint8_t *out, size_t out_len, size_t answer[2]);
 
+/* The least distance of a hit that names none: what is not above it is no hit, so that a ray which leaves a panel does not hit it
+ * again. A call that ends in _above takes a least distance by name; with 0 all that is ahead of the ray's origin counts. A larger
+ * least distance never turns a miss into a hit. */
+#define KRIBBELSTEEN_LEAST 0.001
+
 /* Where a ray hits a sphere.
  *
- * ray: origin x y z, direction x y z. sphere: centre x y z, radius.
- * Returns 0 for a hit and 1 for a miss, or refuses: 20 if an input is NaN or infinite; 21 for a radius not above 0; then by the
- * first step that fails 20 for a result that is NaN or infinite, 21 for a direction whose dot product with itself is 0.
- * answer: the distance, in lengths of the direction, above 0; 0 on a miss or a refusal. Nothing else is written. */
+ * ray: origin x y z, direction x y z. sphere: centre x y z, radius. least: a distance from 0 on.
+ * Returns 0 for a hit and 1 for a miss, or refuses: 20 if an input is NaN or infinite; 21 for a radius not above 0 or a least distance
+ * below 0; then by the first step that fails 20 for a result that is NaN or infinite, 21 for a direction whose dot product with
+ * itself is 0.
+ * answer: the distance, in lengths of the direction, above the least one; 0 on a miss or a refusal. Nothing else is written. */
 uint32_t kribbelsteen_sphere(const double ray[6], const double sphere[4], double answer[1]);
+uint32_t kribbelsteen_sphere_above(const double ray[6], const double sphere[4], double least, double answer[1]);
 
 /* Where a ray hits a ring.
  *
- * ray: origin x y z, direction x y z. ring: centre x y z, normal x y z, inner radius, outer radius.
- * Returns 0 for a hit and 1 for a miss, or refuses: 20 if an input is NaN or infinite; 21 for an inner radius below 0 or an outer
- * one not above it; then 20 for a step whose result is NaN or infinite.
- * answer: the distance, in lengths of the direction, above 0; 0 on a miss or a refusal. Nothing else is written. */
+ * ray: origin x y z, direction x y z. ring: centre x y z, normal x y z, inner radius, outer radius. least: a distance from 0 on.
+ * Returns 0 for a hit and 1 for a miss, or refuses: 20 if an input is NaN or infinite; 21 for an inner radius below 0, an outer one not
+ * above it or a least distance below 0; then 20 for a step whose result is NaN or infinite.
+ * answer: the distance, in lengths of the direction, above the least one; 0 on a miss or a refusal. Nothing else is written. */
 uint32_t kribbelsteen_ring(const double ray[6], const double ring[8], double answer[1]);
+uint32_t kribbelsteen_ring_above(const double ray[6], const double ring[8], double least, double answer[1]);
 
 /* Where a ray hits a polygon: flat, its last corner joined to its first. A hole is joined to the rim by an edge that is gone along
  * twice.
  *
- * ray: origin x y z, direction x y z. corners: x y z of each. The normal is the sum of the products of consecutive corners, and the
- * axis of its largest part is left out; a point of the plane is inside where a line from it crosses an odd number of edges. An edge
- * counts from its lower end on and not at its upper one.
- * Returns 0 for a hit and 1 for a miss, or refuses: 20 if an input is NaN or infinite; 21 for under 3 corners or a number of doubles
- * that is no multiple of 3; then by the first step that fails 20 for a result that is NaN or infinite, 21 for a normal that is 0.
- * answer: the distance, in lengths of the direction, above 0; 0 on a miss or a refusal. Nothing else is written. */
+ * ray: origin x y z, direction x y z. corners: x y z of each. least: a distance from 0 on. The normal is the sum of the products of
+ * consecutive corners, and the axis of its largest part is left out; a point of the plane is inside where a line from it crosses an
+ * odd number of edges. An edge counts from its lower end on and not at its upper one.
+ * Returns 0 for a hit and 1 for a miss, or refuses: 20 if an input is NaN or infinite; 21 for under 3 corners, a number of doubles that
+ * is no multiple of 3 or a least distance below 0; then by the first step that fails 20 for a result that is NaN or infinite, 21 for a
+ * normal that is 0.
+ * answer: the distance, in lengths of the direction, above the least one; 0 on a miss or a refusal. Nothing else is written. */
 uint32_t kribbelsteen_polygon(const double ray[6], const double *corners, size_t corners_len, double answer[1]);
+uint32_t kribbelsteen_polygon_above(const double ray[6], const double *corners, size_t corners_len, double least,
+                                    double answer[1]);
 
 /* Where a ray hits a polygon of a scene, in tables that may hold anything. The text is not needed.
  *
- * Returns and answers as kribbelsteen_polygon does for the reals of the primitive of a number, or refuses before that: 18 and 17 as
+ * Returns and answers as the calls for polygons do for the reals of the primitive of a number, or refuses before that: 18 and 17 as
  * kribbelsteen_name does for count and number, then 18 if it is no polygon or if not all its reals are in the table of reals. */
 uint32_t kribbelsteen_polygon_in_table(const double ray[6], const uint32_t *records, size_t records_len, size_t count,
                                        size_t number, const double *reals, size_t reals_len, double answer[1]);
+uint32_t kribbelsteen_polygon_in_table_above(const double ray[6], const uint32_t *records, size_t records_len, size_t count,
+                                             size_t number, const double *reals, size_t reals_len, double least,
+                                             double answer[1]);
 
 /* Fresnel's coefficients for light that comes at a cosine cos1 from index n1 to index n2.
  *

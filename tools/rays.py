@@ -1,13 +1,17 @@
 #!/usr/bin/env python3
-"""Ray hits, Fresnel values and roots: an implementation of its own of document 01's section "Rays and reflection" and of request L6.
+"""Ray hits, Fresnel values and roots: an implementation of its own of document 01's section "Rays and reflection" and of requests L6 and
+L8.
 
     tools/rays.py cases       a list of cases, one to a line (crates/rays/stdin)
     tools/rays.py answers     the answers to standard input's cases (crates/rays/stdout)
     tools/rays.py summary     how many cases there are of each kind, and how many of them have each answer
 
 A case is a kind and the bits of its doubles in hex: `sphere o d c r`, `ring o d c n inner outer`, `polygon o d` and its corners,
-`fresnel cos1 n1 n2`, `root x`, where o, d, c and n are three doubles each. A step is one operation of Python's floats, which are
-IEEE doubles rounded once; the root is taken of whole numbers, exactly; a polygon's steps are exact fractions, rounded once."""
+`fresnel cos1 n1 n2`, `root x`, where o, d, c and n are three doubles each. Rays of these kinds have the least distance 0; those of
+`sphere_above`, `ring_above` and `polygon_above` have it as their last double, and `sphere_default` and so on have the default.
+
+A step is one operation of Python's floats, which are IEEE doubles rounded once; the root is taken of whole numbers, exactly; a
+polygon's steps are exact fractions, rounded once."""
 import collections
 import math
 import random
@@ -17,7 +21,10 @@ import sys
 from fractions import Fraction
 from math import inf, nextafter
 
-SIZES = {"sphere": [10], "ring": [14], "polygon": range(6, 127), "fresnel": [3], "root": [1]}
+SIZES = {"sphere": [10], "ring": [14], "polygon": range(6, 128), "fresnel": [3], "root": [1]}
+SHAPES_ABOVE = {"sphere_above": [11], "ring_above": [15], "polygon_above": range(7, 128)}
+SIZES |= SHAPES_ABOVE | {shape + "_default": SIZES[shape] for shape in ("sphere", "ring", "polygon")}
+DEFAULT = 0.001
 LONGEST = 2304  # bytes of a line, its end not counted
 
 
@@ -64,9 +71,9 @@ def root(x):
     return r
 
 
-def sphere(*inputs):
+def sphere(least, *inputs):
     o, d, c, r = inputs[0:3], inputs[3:6], inputs[6:9], inputs[9]
-    in_range(r > 0)
+    in_range(r > 0 and least >= 0)
     p = [step(x - y) for x, y in zip(o, c)]
     a = dot(d, d)
     in_range(a != 0)
@@ -77,25 +84,25 @@ def sphere(*inputs):
         return "miss"
     e = root(discriminant)
     near, far = divide(step(-b - e), a), divide(step(-b + e), a)
-    return next(("at " + pattern(t) for t in (near, far) if t > 0), "miss")
+    return next(("at " + pattern(t) for t in (near, far) if t > least), "miss")
 
 
-def plane(o, d, c, n):
+def plane(o, d, c, n, least=0.0):
     """The t and the s of a ring's plane; nothing for a miss."""
     m = dot(d, n)
     if m == 0:
         return None
     t = divide(dot([step(x - y) for x, y in zip(c, o)], n), m)
-    if not t > 0:
+    if not t > least:
         return None
     w = [step(step(x + step(t * y)) - z) for x, y, z in zip(o, d, c)]
     return t, dot(w, w)
 
 
-def ring(*inputs):
+def ring(least, *inputs):
     inner, outer = inputs[12:14]
-    in_range(inner >= 0 and outer > inner)
-    met = plane(inputs[0:3], inputs[3:6], inputs[6:9], inputs[9:12])
+    in_range(inner >= 0 and outer > inner and least >= 0)
+    met = plane(inputs[0:3], inputs[3:6], inputs[6:9], inputs[9:12], least)
     if met is None:
         return "miss"
     t, s = met
@@ -130,8 +137,8 @@ def is_crossed(g, h, p, a, b):
     return rounded(low[g] + part) > p[g]
 
 
-def polygon(*inputs):
-    in_range(len(inputs) >= 6 + 9 and len(inputs) % 3 == 0)
+def polygon(least, *inputs):
+    in_range(len(inputs) >= 6 + 9 and len(inputs) % 3 == 0 and least >= 0)
     o, d, *corners = ([Fraction(x) for x in inputs[i : i + 3]] for i in range(0, len(inputs), 3))
     edges = list(zip(corners, corners[1:] + corners[:1]))
     n = None
@@ -143,7 +150,7 @@ def polygon(*inputs):
     if m == 0:
         return "miss"
     t = rounded(exact_dot([rounded(x - y) for x, y in zip(corners[0], o)], n) / m)
-    if t <= 0:
+    if t <= Fraction(least):
         return "miss"
     p = [rounded(x + rounded(t * y)) for x, y in zip(o, d)]
     dropped = max(range(3), key=lambda axis: (abs(n[axis]), -axis))
@@ -176,8 +183,12 @@ def answer(line):
     inputs = [value(int(word, 16)) for word in words]
     if kind == "root":
         return "root " + (pattern(root(inputs[0])) if 0 <= inputs[0] < inf else "nan")
+    shape, _, form = kind.partition("_")
+    least = inputs.pop() if form == "above" else DEFAULT if form == "default" else 0.0
     try:
-        return {"sphere": sphere, "ring": ring, "polygon": polygon, "fresnel": fresnel}[kind](*map(step, inputs))
+        if kind == "fresnel":
+            return fresnel(*map(step, inputs))
+        return {"sphere": sphere, "ring": ring, "polygon": polygon}[shape](*map(step, [least, *inputs]))
     except Refused as refused:
         return "refused %d" % refused.args[0]
 
@@ -416,12 +427,48 @@ def polygons():
     yield from ([value(draw.getrandbits(64)) for _ in good] for _ in range(40))
 
 
+def distance(hit):
+    """The distance of an answer, or nothing."""
+    return value(int(hit[3:], 16)) if hit.startswith("at ") else None
+
+
+def above(shape, made):
+    """Some cases of a shape with the default, and with least distances at each of their distances, beside and between them."""
+    for k, inputs in enumerate(made):
+        case = [shape + "_above", *map(pattern, inputs)]
+        near = distance(answer(" ".join(case + [pattern(0.0)])))
+        if near is None and k % 8:
+            continue
+        yield " ".join([shape + "_default", *case[1:]])
+        leasts = [0.0, -0.0, LEAST, DEFAULT, LARGEST, -LEAST, -1.0, draw.choice(NOT_FINITE)]
+        if near is not None:
+            far = distance(answer(" ".join(case + [pattern(near)])))
+            leasts = beside(near) + (beside(far) + [near + (far - near) / 2] if far else [2 * near]) + [draw.choice(leasts)]
+        yield from (" ".join(case + [pattern(least)]) for least in leasts)
+
+
+def near_default():
+    """The distance is the default or beside it, or that many lengths of a direction that is no unit."""
+    square = placed(SQUARE, (1, 0, 0), (0, 1, 0))
+    for t in beside(DEFAULT, 3) + [0.0005, 0.002]:
+        for length in (1.0, 2.0, 0.5):
+            ray = [1, 1, -t * length, 0, 0, length]
+            yield from (("sphere", [*ray, 1, 1, 1, 1]), ("sphere", [*ray, 1, 1, -1, 1]))
+            yield from (("ring", [*ray, 1, 1, 0, 0, 0, 1, 0, 5]), ("polygon", [*ray, *square]))
+
+
 def cases():
     for kind, made in ("sphere", spheres()), ("ring", rings()), ("fresnel", fresnels()), ("root", roots()), ("polygon", polygons()):
         yield from (" ".join([kind, *map(pattern, inputs)]) for inputs in made)
+    for shape, inputs in near_default():
+        yield from (" ".join([shape + form, *map(pattern, inputs)]) for form in ("", "_default"))
+    for shape, made in ("sphere", list(spheres())[::3]), ("ring", list(rings())[::6]), ("polygon", list(polygons())[::11]):
+        yield from above(shape, made)
     one = pattern(1.0)  # the rest are no cases, but for four with other blanks
     words = ("", one[1:], one + "0", one[1:] + "g", one.upper(), "0x" + one[2:], one + " " + one, "\t" + one + " ")
-    yield from ("", " ", "cone " + one, *(kind + n * (" " + one) for kind, n in (("ring", 15), ("polygon", 5), ("polygon", 127))))
+    sizes = {"ring": 15, "sphere_above": 10, "sphere_below": 11, "ring_default": 15, "polygon": 5, "polygon_above": 6}
+    sizes |= {"polygon_default": 128}
+    yield from ("", " ", "cone " + one, *(kind + n * (" " + one) for kind, n in sizes.items()))
     yield from ("root " + word for word in words)
     yield from (blanks * " " + "root " + one for blanks in (LONGEST - 22, LONGEST - 21, LONGEST - 20, 4000, 0))
 

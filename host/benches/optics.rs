@@ -21,6 +21,7 @@ mod reference;
 
 use kribbelsteen::raw;
 use reference::random::Random;
+use reference::rays::LEAST;
 use reference::{plain, rays};
 use std::hint::black_box;
 use std::time::Instant;
@@ -252,19 +253,19 @@ fn near(a: f64, b: f64, tolerance: f64) -> bool {
 }
 
 fn sphere_alike((ray, sphere): &RayAndSphere) -> Kind {
-    let by_digits = plain::sphere(ray, sphere, raw::root);
-    let plain = plain::sphere(ray, sphere, f64::sqrt);
-    hit_alike(raw::sphere(ray, sphere), rays::sphere(ray, sphere), &[(by_digits, 0.0), (plain, 1e-12)])
+    let by_digits = plain::sphere(ray, sphere, LEAST, raw::root);
+    let plain = plain::sphere(ray, sphere, LEAST, f64::sqrt);
+    hit_alike(raw::sphere(ray, sphere), rays::sphere(ray, sphere, LEAST), &[(by_digits, 0.0), (plain, 1e-12)])
 }
 
 fn ring_alike((ray, ring): &RayAndRing) -> Kind {
-    hit_alike(raw::ring(ray, ring), rays::ring(ray, ring), &[(plain::ring(ray, ring), 0.0)])
+    hit_alike(raw::ring(ray, ring), rays::ring(ray, ring, LEAST), &[(plain::ring(ray, ring, LEAST), 0.0)])
 }
 
 /// The plain routine adds the products up from another edge on, so distances differ in their last places.
 fn polygon_alike((ray, corners): &RayAndPolygon) -> Kind {
-    let plain = plain::polygon(ray, corners);
-    hit_alike(raw::polygon(ray, corners), rays::polygon(ray, corners), &[(plain, 1e-9)])
+    let plain = plain::polygon(ray, corners, LEAST);
+    hit_alike(raw::polygon(ray, corners), rays::polygon(ray, corners, LEAST), &[(plain, 1e-9)])
 }
 
 /// The checked routine gives the same bits in all cases, and the plain ones, each with its tolerance, the same hits and misses. What
@@ -385,23 +386,23 @@ fn main() {
     );
     let spheres: Contenders<RayAndSphere> = Contenders {
         library: |cases| time(cases, |(ray, sphere)| raw::sphere(ray, sphere)),
-        checked: |cases| time(cases, |(ray, sphere)| rays::sphere(ray, sphere)),
-        by_digits: Some(|cases| time(cases, |(ray, sphere)| plain::sphere(ray, sphere, raw::root))),
-        plain: |cases| time(cases, |(ray, sphere)| plain::sphere(ray, sphere, f64::sqrt)),
+        checked: |cases| time(cases, |(ray, sphere)| rays::sphere(ray, sphere, LEAST)),
+        by_digits: Some(|cases| time(cases, |(ray, sphere)| plain::sphere(ray, sphere, LEAST, raw::root))),
+        plain: |cases| time(cases, |(ray, sphere)| plain::sphere(ray, sphere, LEAST, f64::sqrt)),
     };
     report("sphere", sphere, sphere_alike, spheres);
     let rings: Contenders<RayAndRing> = Contenders {
         library: |cases| time(cases, |(ray, ring)| raw::ring(ray, ring)),
-        checked: |cases| time(cases, |(ray, ring)| rays::ring(ray, ring)),
+        checked: |cases| time(cases, |(ray, ring)| rays::ring(ray, ring, LEAST)),
         by_digits: None,
-        plain: |cases| time(cases, |(ray, ring)| plain::ring(ray, ring)),
+        plain: |cases| time(cases, |(ray, ring)| plain::ring(ray, ring, LEAST)),
     };
     report("ring", ring, ring_alike, rings);
     let polygons: Contenders<RayAndPolygon> = Contenders {
         library: |cases| time(cases, |(ray, corners)| raw::polygon(ray, corners)),
-        checked: |cases| time(cases, |(ray, corners)| rays::polygon(ray, corners)),
+        checked: |cases| time(cases, |(ray, corners)| rays::polygon(ray, corners, LEAST)),
         by_digits: None,
-        plain: |cases| time(cases, |(ray, corners)| plain::polygon(ray, corners)),
+        plain: |cases| time(cases, |(ray, corners)| plain::polygon(ray, corners, LEAST)),
     };
     report("polygon", polygon, polygon_alike, polygons);
     let reflections: Contenders<[f64; 3]> = Contenders {

@@ -18,7 +18,7 @@ fn along(o: Vector, t: f64, d: Vector) -> Vector {
 }
 
 /// Where a ray, origin and direction, hits a sphere, centre and radius.
-pub fn sphere(ray: &[f64; 6], sphere: &[f64; 4], root: impl Fn(f64) -> f64) -> Option<f64> {
+pub fn sphere(ray: &[f64; 6], sphere: &[f64; 4], least: f64, root: impl Fn(f64) -> f64) -> Option<f64> {
     let &[ox, oy, oz, dx, dy, dz] = ray;
     let &[cx, cy, cz, r] = sphere;
     let d = [dx, dy, dz];
@@ -31,15 +31,15 @@ pub fn sphere(ray: &[f64; 6], sphere: &[f64; 4], root: impl Fn(f64) -> f64) -> O
     }
     let e = root(discriminant);
     let near = (-b - e) / a;
-    if near > 0.0 {
+    if near > least {
         return Some(near);
     }
     let far = (-b + e) / a;
-    (far > 0.0).then_some(far)
+    (far > least).then_some(far)
 }
 
 /// Where a ray hits a ring: centre, normal, inner and outer radius.
-pub fn ring(ray: &[f64; 6], ring: &[f64; 8]) -> Option<f64> {
+pub fn ring(ray: &[f64; 6], ring: &[f64; 8], least: f64) -> Option<f64> {
     let &[ox, oy, oz, dx, dy, dz] = ray;
     let &[cx, cy, cz, nx, ny, nz, inner, outer] = ring;
     let (o, d, c, n) = ([ox, oy, oz], [dx, dy, dz], [cx, cy, cz], [nx, ny, nz]);
@@ -48,7 +48,7 @@ pub fn ring(ray: &[f64; 6], ring: &[f64; 8]) -> Option<f64> {
         return None;
     }
     let t = dot(minus(c, o), n) / m;
-    if t <= 0.0 {
+    if t <= least {
         return None;
     }
     let w = minus(along(o, t, d), c);
@@ -57,7 +57,7 @@ pub fn ring(ray: &[f64; 6], ring: &[f64; 8]) -> Option<f64> {
 }
 
 /// Where a ray hits a polygon: its corners, three reals each.
-pub fn polygon(ray: &[f64; 6], reals: &[f64]) -> Option<f64> {
+pub fn polygon(ray: &[f64; 6], reals: &[f64], least: f64) -> Option<f64> {
     let &[ox, oy, oz, dx, dy, dz] = ray;
     let (o, d) = ([ox, oy, oz], [dx, dy, dz]);
     let count = reals.len() / 3;
@@ -73,7 +73,7 @@ pub fn polygon(ray: &[f64; 6], reals: &[f64]) -> Option<f64> {
         a = b;
     }
     let t = dot(minus(corner(0), o), n) / dot(d, n);
-    if !(t > 0.0 && t.is_finite()) {
+    if !(t > least && t.is_finite()) {
         return None;
     }
     let p = along(o, t, d);

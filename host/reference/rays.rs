@@ -49,13 +49,17 @@ fn along(o: Vector, t: f64, d: Vector) -> Result<Vector, u32> {
     Ok([part(0)?, part(1)?, part(2)?])
 }
 
-/// Where a ray, origin and direction, hits a sphere, centre and radius.
-pub fn sphere(ray: &[f64; 6], sphere: &[f64; 4]) -> Hit {
+/// The least distance where none is named.
+pub const LEAST: f64 = 0.001;
+
+/// Where a ray, origin and direction, hits a sphere, centre and radius, above a least distance.
+pub fn sphere(ray: &[f64; 6], sphere: &[f64; 4], least: f64) -> Hit {
     finite(ray)?;
     finite(sphere)?;
+    finite(&[least])?;
     let &[ox, oy, oz, dx, dy, dz] = ray;
     let &[cx, cy, cz, r] = sphere;
-    in_range(r > 0.0)?;
+    in_range(r > 0.0 && least >= 0.0)?;
     let d = [dx, dy, dz];
     let p = minus([ox, oy, oz], [cx, cy, cz])?;
     let a = dot(d, d)?;
@@ -69,28 +73,29 @@ pub fn sphere(ray: &[f64; 6], sphere: &[f64; 4]) -> Hit {
     let e = step(root(discriminant))?;
     let near = step(step(-b - e)? / a)?;
     let far = step(step(-b + e)? / a)?;
-    Ok([near, far].into_iter().find(|&t| t > 0.0))
+    Ok([near, far].into_iter().find(|&t| t > least))
 }
 
 /// How far along a ray meets the plane through a point with a normal.
-fn plane(o: Vector, d: Vector, c: Vector, n: Vector) -> Hit {
+fn plane(o: Vector, d: Vector, c: Vector, n: Vector, least: f64) -> Hit {
     let m = dot(d, n)?;
     if m == 0.0 {
         return Ok(None);
     }
     let t = step(dot(minus(c, o)?, n)? / m)?;
-    Ok((t > 0.0).then_some(t))
+    Ok((t > least).then_some(t))
 }
 
 /// Where a ray hits a ring: centre, normal, inner and outer radius.
-pub fn ring(ray: &[f64; 6], ring: &[f64; 8]) -> Hit {
+pub fn ring(ray: &[f64; 6], ring: &[f64; 8], least: f64) -> Hit {
     finite(ray)?;
     finite(ring)?;
+    finite(&[least])?;
     let &[ox, oy, oz, dx, dy, dz] = ray;
     let &[cx, cy, cz, nx, ny, nz, inner, outer] = ring;
-    in_range(inner >= 0.0 && outer > inner)?;
+    in_range(inner >= 0.0 && outer > inner && least >= 0.0)?;
     let (o, d, c, n) = ([ox, oy, oz], [dx, dy, dz], [cx, cy, cz], [nx, ny, nz]);
-    let Some(t) = plane(o, d, c, n)? else {
+    let Some(t) = plane(o, d, c, n, least)? else {
         return Ok(None);
     };
     let w = minus(along(o, t, d)?, c)?;
@@ -119,10 +124,11 @@ fn is_crossed(g: usize, h: usize, p: Vector, (a, b): (Vector, Vector)) -> Result
 }
 
 /// Where a ray hits a polygon: its corners, three reals each.
-pub fn polygon(ray: &[f64; 6], reals: &[f64]) -> Hit {
+pub fn polygon(ray: &[f64; 6], reals: &[f64], least: f64) -> Hit {
     finite(ray)?;
     finite(reals)?;
-    in_range(reals.len() >= 9 && reals.len() % 3 == 0)?;
+    finite(&[least])?;
+    in_range(reals.len() >= 9 && reals.len() % 3 == 0 && least >= 0.0)?;
     let &[ox, oy, oz, dx, dy, dz] = ray;
     let (o, d) = ([ox, oy, oz], [dx, dy, dz]);
     let corners: Vec<Vector> = reals.chunks_exact(3).map(|c| [c[0], c[1], c[2]]).collect();
@@ -130,7 +136,7 @@ pub fn polygon(ray: &[f64; 6], reals: &[f64]) -> Hit {
     let (a, b) = edges[0];
     let n = edges[1..].iter().try_fold(cross(a, b)?, |sum, &(a, b)| plus(sum, cross(a, b)?))?;
     in_range(n != [0.0; 3])?;
-    let Some(t) = plane(o, d, corners[0], n)? else {
+    let Some(t) = plane(o, d, corners[0], n, least)? else {
         return Ok(None);
     };
     let p = along(o, t, d)?;

@@ -35,9 +35,9 @@ mod types;
 mod words;
 mod writing;
 
-pub use polygons::{polygon, polygon_in_table, PolygonRefusal};
+pub use polygons::{polygon, polygon_above, polygon_in_table, polygon_in_table_above, PolygonRefusal};
 pub use questions::{finish, name, Finish, Question};
-pub use rays::{fresnel, ring, root, sphere, Ray, Reflection, Ring, Sphere, Step};
+pub use rays::{fresnel, ring, ring_above, root, sphere, sphere_above, Ray, Reflection, Ring, Sphere, Step, LEAST};
 pub use reading::{read, read_indexed, Counts, Indexed, Mode, Primitive, Reason, Refusal, Scene};
 pub use saves::{compare, read_both, Line, Lines, SaveRefusal, Saves, Side, State};
 pub use types::Type;

@@ -7,7 +7,7 @@ use std::error::Error;
 use std::fmt;
 
 /// The distance at which a ray hits a flat polygon, none if it misses. The last corner is joined to the first; a hole is joined to
-/// the rim by an edge that is gone along twice.
+/// the rim by an edge that is gone along twice. What is not above [`LEAST`](crate::LEAST) is no hit.
 ///
 /// ```
 /// use kribbelsteen::{polygon, Ray};
@@ -17,6 +17,11 @@ use std::fmt;
 /// ```
 pub fn polygon(ray: &Ray, corners: &[[f64; 3]]) -> Result<Option<f64>, Step> {
     hit(raw::polygon(&ray.numbers(), corners.as_flattened()))
+}
+
+/// The same for hits above a least distance, which is at least 0.
+pub fn polygon_above(ray: &Ray, corners: &[[f64; 3]], least: f64) -> Result<Option<f64>, Step> {
+    hit(raw::polygon_above(&ray.numbers(), corners.as_flattened(), least))
 }
 
 /// Why a ray on a polygon of a table is refused.
@@ -49,7 +54,16 @@ impl fmt::Display for PolygonRefusal {
 
 impl Error for PolygonRefusal {}
 
-/// The distance at which a ray hits the polygon of a number, in a table of so many records, none if it misses.
+fn hit_in_table(told: (u32, f64)) -> Result<Option<f64>, PolygonRefusal> {
+    match told.0 {
+        17 => Err(PolygonRefusal::Question(Question::NoSuchPrimitive)),
+        18 => Err(PolygonRefusal::Question(Question::BadTable)),
+        _ => hit(told).map_err(PolygonRefusal::Step),
+    }
+}
+
+/// The distance at which a ray hits the polygon of a number, in a table of so many records, none if it misses. What is not above
+/// [`LEAST`](crate::LEAST) is no hit.
 pub fn polygon_in_table(
     ray: &Ray,
     records: &[u32],
@@ -57,10 +71,17 @@ pub fn polygon_in_table(
     number: usize,
     reals: &[f64],
 ) -> Result<Option<f64>, PolygonRefusal> {
-    let told = raw::polygon_in_table(&ray.numbers(), records, count, number, reals);
-    match told.0 {
-        17 => Err(PolygonRefusal::Question(Question::NoSuchPrimitive)),
-        18 => Err(PolygonRefusal::Question(Question::BadTable)),
-        _ => hit(told).map_err(PolygonRefusal::Step),
-    }
+    hit_in_table(raw::polygon_in_table(&ray.numbers(), records, count, number, reals))
+}
+
+/// The same for hits above a least distance, which is at least 0.
+pub fn polygon_in_table_above(
+    ray: &Ray,
+    records: &[u32],
+    count: usize,
+    number: usize,
+    reals: &[f64],
+    least: f64,
+) -> Result<Option<f64>, PolygonRefusal> {
+    hit_in_table(raw::polygon_in_table_above(&ray.numbers(), records, count, number, reals, least))
 }

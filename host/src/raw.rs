@@ -118,8 +118,17 @@ extern "C" {
         answer: *mut usize,
     ) -> u32;
     fn kribbelsteen_sphere(ray: *const f64, sphere: *const f64, answer: *mut f64) -> u32;
+    fn kribbelsteen_sphere_above(ray: *const f64, sphere: *const f64, least: f64, answer: *mut f64) -> u32;
     fn kribbelsteen_ring(ray: *const f64, ring: *const f64, answer: *mut f64) -> u32;
+    fn kribbelsteen_ring_above(ray: *const f64, ring: *const f64, least: f64, answer: *mut f64) -> u32;
     fn kribbelsteen_polygon(ray: *const f64, corners: *const f64, corners_len: usize, answer: *mut f64) -> u32;
+    fn kribbelsteen_polygon_above(
+        ray: *const f64,
+        corners: *const f64,
+        corners_len: usize,
+        least: f64,
+        answer: *mut f64,
+    ) -> u32;
     fn kribbelsteen_polygon_in_table(
         ray: *const f64,
         records: *const u32,
@@ -128,6 +137,17 @@ extern "C" {
         number: usize,
         reals: *const f64,
         reals_len: usize,
+        answer: *mut f64,
+    ) -> u32;
+    fn kribbelsteen_polygon_in_table_above(
+        ray: *const f64,
+        records: *const u32,
+        records_len: usize,
+        count: usize,
+        number: usize,
+        reals: *const f64,
+        reals_len: usize,
+        least: f64,
         answer: *mut f64,
     ) -> u32;
     fn kribbelsteen_fresnel(cos1: f64, n1: f64, n2: f64, answer: *mut f64) -> u32;
@@ -368,11 +388,27 @@ pub fn sphere(ray: &[f64; 6], sphere: &[f64; 4]) -> (u32, f64) {
     (outcome, answer[0])
 }
 
+/// The same above a least distance.
+pub fn sphere_above(ray: &[f64; 6], sphere: &[f64; 4], least: f64) -> (u32, f64) {
+    let mut answer = [f64::NAN];
+    // SAFETY: as for `sphere`.
+    let outcome = unsafe { kribbelsteen_sphere_above(ray.as_ptr(), sphere.as_ptr(), least, answer.as_mut_ptr()) };
+    (outcome, answer[0])
+}
+
 /// A ray (origin, direction) and a ring (centre, normal, inner, outer): as for a sphere.
 pub fn ring(ray: &[f64; 6], ring: &[f64; 8]) -> (u32, f64) {
     let mut answer = [f64::NAN];
     // SAFETY: the arrays have the lengths that the call reads and writes, and only the answer is written.
     let outcome = unsafe { kribbelsteen_ring(ray.as_ptr(), ring.as_ptr(), answer.as_mut_ptr()) };
+    (outcome, answer[0])
+}
+
+/// The same above a least distance.
+pub fn ring_above(ray: &[f64; 6], ring: &[f64; 8], least: f64) -> (u32, f64) {
+    let mut answer = [f64::NAN];
+    // SAFETY: as for `ring`.
+    let outcome = unsafe { kribbelsteen_ring_above(ray.as_ptr(), ring.as_ptr(), least, answer.as_mut_ptr()) };
     (outcome, answer[0])
 }
 
@@ -382,6 +418,15 @@ pub fn polygon(ray: &[f64; 6], corners: &[f64]) -> (u32, f64) {
     // SAFETY: the arrays have the lengths that the call reads and writes, pointer and length are those of a slice, and only the answer
     // is written.
     let outcome = unsafe { kribbelsteen_polygon(ray.as_ptr(), corners.as_ptr(), corners.len(), answer.as_mut_ptr()) };
+    (outcome, answer[0])
+}
+
+/// The same above a least distance.
+pub fn polygon_above(ray: &[f64; 6], corners: &[f64], least: f64) -> (u32, f64) {
+    let mut answer = [f64::NAN];
+    let (at, len) = (corners.as_ptr(), corners.len());
+    // SAFETY: as for `polygon`.
+    let outcome = unsafe { kribbelsteen_polygon_above(ray.as_ptr(), at, len, least, answer.as_mut_ptr()) };
     (outcome, answer[0])
 }
 
@@ -399,6 +444,33 @@ pub fn polygon_in_table(ray: &[f64; 6], records: &[u32], count: usize, number: u
             number,
             reals.as_ptr(),
             reals.len(),
+            answer.as_mut_ptr(),
+        )
+    };
+    (outcome, answer[0])
+}
+
+/// The same above a least distance.
+pub fn polygon_in_table_above(
+    ray: &[f64; 6],
+    records: &[u32],
+    count: usize,
+    number: usize,
+    reals: &[f64],
+    least: f64,
+) -> (u32, f64) {
+    let mut answer = [f64::NAN];
+    // SAFETY: as for `polygon_in_table`.
+    let outcome = unsafe {
+        kribbelsteen_polygon_in_table_above(
+            ray.as_ptr(),
+            records.as_ptr(),
+            records.len(),
+            count,
+            number,
+            reals.as_ptr(),
+            reals.len(),
+            least,
             answer.as_mut_ptr(),
         )
     };

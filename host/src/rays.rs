@@ -56,6 +56,9 @@ impl Ray {
     }
 }
 
+/// The least distance of a call that names none: a ray that leaves a panel does not hit it again.
+pub const LEAST: f64 = 0.001;
+
 /// A sphere.
 #[derive(Clone, Copy, Debug, PartialEq)]
 pub struct Sphere {
@@ -86,7 +89,7 @@ pub(crate) fn hit((outcome, distance): (u32, f64)) -> Result<Option<f64>, Step> 
     }
 }
 
-/// The distance at which a ray hits a sphere, none if it misses.
+/// The distance at which a ray hits a sphere, none if it misses. What is not above [`LEAST`] is no hit.
 ///
 /// ```
 /// use kribbelsteen::{sphere, Ray, Sphere};
@@ -99,10 +102,34 @@ pub fn sphere(ray: &Ray, sphere: &Sphere) -> Result<Option<f64>, Step> {
     hit(raw::sphere(&ray.numbers(), &[x, y, z, sphere.radius]))
 }
 
-/// The distance at which a ray hits a ring, none if it misses.
+/// The same for hits above a least distance, which is at least 0.
+///
+/// ```
+/// use kribbelsteen::{sphere_above, Ray, Sphere};
+///
+/// let ray = Ray { origin: [0.0, 0.0, -5.0], direction: [0.0, 0.0, 1.0] };
+/// assert_eq!(sphere_above(&ray, &Sphere { centre: [0.0; 3], radius: 1.0 }, 4.5), Ok(Some(6.0)));
+/// ```
+pub fn sphere_above(ray: &Ray, sphere: &Sphere, least: f64) -> Result<Option<f64>, Step> {
+    let [x, y, z] = sphere.centre;
+    hit(raw::sphere_above(&ray.numbers(), &[x, y, z, sphere.radius], least))
+}
+
+impl Ring {
+    fn numbers(&self) -> [f64; 8] {
+        let ([cx, cy, cz], [nx, ny, nz]) = (self.centre, self.normal);
+        [cx, cy, cz, nx, ny, nz, self.inner, self.outer]
+    }
+}
+
+/// The distance at which a ray hits a ring, none if it misses. What is not above [`LEAST`] is no hit.
 pub fn ring(ray: &Ray, ring: &Ring) -> Result<Option<f64>, Step> {
-    let ([cx, cy, cz], [nx, ny, nz]) = (ring.centre, ring.normal);
-    hit(raw::ring(&ray.numbers(), &[cx, cy, cz, nx, ny, nz, ring.inner, ring.outer]))
+    hit(raw::ring(&ray.numbers(), &ring.numbers()))
+}
+
+/// The same for hits above a least distance, which is at least 0.
+pub fn ring_above(ray: &Ray, ring: &Ring, least: f64) -> Result<Option<f64>, Step> {
+    hit(raw::ring_above(&ray.numbers(), &ring.numbers(), least))
 }
 
 /// How light is reflected where two media meet.

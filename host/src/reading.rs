@@ -1,6 +1,6 @@
 //! Scene texts, read into lent tables.
 
-use crate::{polygon_in_table, questions, raw, writing};
+use crate::{polygon_in_table, polygon_in_table_above, questions, raw, writing};
 use crate::{Finish, PolygonRefusal, Question, Ray, Type, Unwritten, Word, Words, INDEX, RECORD};
 use std::error::Error;
 use std::fmt;
@@ -267,9 +267,15 @@ impl<'s> Scene<'s> {
         questions::finish(self.records, self.counts().primitives, number, allowance)
     }
 
-    /// The distance at which a ray hits the polygon of a number, none if it misses.
+    /// The distance at which a ray hits the polygon of a number, none if it misses. What is not above [`LEAST`](crate::LEAST) is no
+    /// hit.
     pub fn polygon(&self, ray: &Ray, number: usize) -> Result<Option<f64>, PolygonRefusal> {
         polygon_in_table(ray, self.records, self.counts().primitives, number, self.reals)
+    }
+
+    /// The same for hits above a least distance, which is at least 0.
+    pub fn polygon_above(&self, ray: &Ray, number: usize, least: f64) -> Result<Option<f64>, PolygonRefusal> {
+        polygon_in_table_above(ray, self.records, self.counts().primitives, number, self.reals, least)
     }
 
     /// Writes the scene's tidy text into a lent output, as [`write`](crate::write) does in the mode of its reading.

@@ -73,12 +73,17 @@ fresnel 0 0.25 0.25 0.25
 fresnel 1 0 0 0
 fresnel 0 1 1 1
 fresnel 20 0 0 0
+leaving, sphere 0 1.00098
+leaving, ring 0 1.00098
+leaving, polygon 1 0
+leaving, polygon above 0: 0 0.000976562
+sphere above -1: 21 0
 root 1.4142135623730949
 root of -1 is none
-screen 1: 18 0
-screen 2: 0 2.5
-screen 3: 21 0
-screen 4: 17 0
+screen 1: 18 0, above 2.5: 18 0
+screen 2: 0 2.5, above 2.5: 1 0
+screen 3: 21 0, above 2.5: 21 0
+screen 4: 17 0, above 2.5: 17 0
 ";
 
 fn package() -> &'static Path {

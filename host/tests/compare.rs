@@ -1001,46 +1001,88 @@ fn expected_hit(hit: rays::Hit) -> (u32, f64) {
     }
 }
 
+fn told((outcome, distance): (u32, f64)) -> (u32, u64) {
+    (outcome, distance.to_bits())
+}
+
+fn same_hit(ours: (u32, f64), expected: rays::Hit, shown: impl Debug) {
+    assert_eq!(told(ours), told(expected_hit(expected)), "{shown:?}");
+}
+
+/// A ray at a shape, by both routines: the old answers, which are those above 0; the default; and a least distance at, beside or
+/// between its distances, or any.
+fn compare_hits(
+    random: &mut Random,
+    tallies: &mut [Tally; 3],
+    default: (u32, f64),
+    above: impl Fn(f64) -> (u32, f64),
+    expected: impl Fn(f64) -> rays::Hit,
+    shown: impl Debug,
+) {
+    let old = above(0.0);
+    same_hit(old, expected(0.0), &shown);
+    same_hit(default, expected(rays::LEAST), &shown);
+    let distances: Vec<f64> = match old {
+        (0, near) => [Some(near), expected(near).ok().flatten()].into_iter().flatten().collect(),
+        _ => Vec::new(),
+    };
+    let least = floats::least(random, &distances);
+    let ours = above(least);
+    same_hit(ours, expected(least), (&shown, least));
+    // A larger least distance never turns a miss into a hit
+    if old.0 == 1 {
+        assert!(default.0 != 0 && ours.0 != 0, "{shown:?}, {least}");
+    }
+    for (tally, (outcome, _)) in tallies.iter_mut().zip([old, default, ours]) {
+        tally.add(outcome);
+    }
+}
+
+fn hit_tallies(names: [&'static str; 3]) -> [Tally; 3] {
+    names.map(Tally::new)
+}
+
+fn report_hits(tallies: &[Tally; 3]) {
+    tallies.iter().for_each(|tally| tally.report([0, 1, 20, 21], 10_000));
+}
+
 #[test]
 fn spheres_are_hit_alike() {
     let mut random = random(3);
-    let mut tally = Tally::new("spheres (0 hit, 1 miss)");
+    let mut tallies = hit_tallies(["spheres (0 hit, 1 miss)", "spheres, default", "spheres above a distance"]);
     for _ in 0..float_count() {
         let (ray, sphere) = floats::sphere(&mut random);
-        let (outcome, distance) = raw::sphere(&ray, &sphere);
-        let (expected, at) = expected_hit(rays::sphere(&ray, &sphere));
-        assert_eq!((outcome, distance.to_bits()), (expected, at.to_bits()), "{ray:?} {sphere:?}");
-        tally.add(outcome);
+        let above = |least| raw::sphere_above(&ray, &sphere, least);
+        let expected = |least| rays::sphere(&ray, &sphere, least);
+        compare_hits(&mut random, &mut tallies, raw::sphere(&ray, &sphere), above, expected, (ray, sphere));
     }
-    tally.report([0, 1, 20, 21], 10_000);
+    report_hits(&tallies);
 }
 
 #[test]
 fn rings_are_hit_alike() {
     let mut random = random(4);
-    let mut tally = Tally::new("rings (0 hit, 1 miss)");
+    let mut tallies = hit_tallies(["rings (0 hit, 1 miss)", "rings, default", "rings above a distance"]);
     for _ in 0..float_count() {
         let (ray, ring) = floats::ring(&mut random);
-        let (outcome, distance) = raw::ring(&ray, &ring);
-        let (expected, at) = expected_hit(rays::ring(&ray, &ring));
-        assert_eq!((outcome, distance.to_bits()), (expected, at.to_bits()), "{ray:?} {ring:?}");
-        tally.add(outcome);
+        let above = |least| raw::ring_above(&ray, &ring, least);
+        let expected = |least| rays::ring(&ray, &ring, least);
+        compare_hits(&mut random, &mut tallies, raw::ring(&ray, &ring), above, expected, (ray, ring));
     }
-    tally.report([0, 1, 20, 21], 10_000);
+    report_hits(&tallies);
 }
 
 #[test]
 fn polygons_are_hit_alike() {
     let mut random = random(12);
-    let mut tally = Tally::new("polygons (0 hit, 1 miss)");
+    let mut tallies = hit_tallies(["polygons (0 hit, 1 miss)", "polygons, default", "polygons above a distance"]);
     for _ in 0..float_count() {
         let (ray, corners) = floats::polygon(&mut random);
-        let (outcome, distance) = raw::polygon(&ray, &corners);
-        let (expected, at) = expected_hit(rays::polygon(&ray, &corners));
-        assert_eq!((outcome, distance.to_bits()), (expected, at.to_bits()), "{ray:?} {corners:?}");
-        tally.add(outcome);
+        let above = |least| raw::polygon_above(&ray, &corners, least);
+        let expected = |least| rays::polygon(&ray, &corners, least);
+        compare_hits(&mut random, &mut tallies, raw::polygon(&ray, &corners), above, expected, (ray, &corners));
     }
-    tally.report([0, 1, 20, 21], 10_000);
+    report_hits(&tallies);
 }
 
 /// A polygon put into a table among others, some numbers of which are spoiled: asked about by its number and others.
@@ -1064,12 +1106,15 @@ fn polygons_in_tables_are_hit_alike() {
         }
         let count = if random.percent(80) { rows + 1 } else { stated_count(&mut random, rows + 1) };
         for number in [at + 1, at + 1, random.below(rows + 4), usize::MAX] {
-            let (outcome, distance) = raw::polygon_in_table(&ray, &records, count, number, &reals);
             let found = scene::corners(&records, count, number, &reals);
-            let (expected, at) = expected_hit(found.and_then(|corners| rays::polygon(&ray, corners)));
-            let shown = || format!("{number} of {count} in {records:?}, {ray:?} {reals:?}");
-            assert_eq!((outcome, distance.to_bits()), (expected, at.to_bits()), "{}", shown());
-            tally.add(outcome);
+            let least = floats::least(&mut random, &[]);
+            let default = raw::polygon_in_table(&ray, &records, count, number, &reals);
+            let above = raw::polygon_in_table_above(&ray, &records, count, number, &reals, least);
+            let shown = (number, count, &records, ray, &reals, least);
+            same_hit(default, found.and_then(|corners| rays::polygon(&ray, corners, rays::LEAST)), shown);
+            same_hit(above, found.and_then(|corners| rays::polygon(&ray, corners, least)), shown);
+            tally.add(default.0);
+            tally.add(above.0);
         }
     }
     tally.report([0, 1, 17, 18, 20, 21], 10_000);

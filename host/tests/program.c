@@ -109,24 +109,25 @@ static void print_words(const char *text) {
 static void print_floats(void) {
     const double ray[6] = {0, 0, -5, 0, 0, 1}, beside[6] = {2, 0, -5, 0, 0, 1}, still[6] = {0, 0, -5, 0, 0, 0};
     const double sphere[4] = {0, 0, 0, 1}, ring[8] = {0, 0, 1, 0, 0, 1, 0, 0.5};
+    const double leaving[6] = {0, 0, -0.0009765625, 0, 0, 1};
     const double square[12] = {-1, -1, 0, 1, -1, 0, 1, 1, 0, -1, 1, 0};
     double answer[3];
     uint32_t kind;
-    kind = kribbelsteen_sphere(ray, sphere, answer);
+    kind = kribbelsteen_sphere_above(ray, sphere, 0, answer);
     printf("sphere %u %g\n", (unsigned)kind, answer[0]);
-    kind = kribbelsteen_sphere(beside, sphere, answer);
+    kind = kribbelsteen_sphere_above(beside, sphere, 0, answer);
     printf("sphere %u %g\n", (unsigned)kind, answer[0]);
-    kind = kribbelsteen_sphere(still, sphere, answer);
+    kind = kribbelsteen_sphere_above(still, sphere, 0, answer);
     printf("sphere %u %g\n", (unsigned)kind, answer[0]);
-    kind = kribbelsteen_ring(ray, ring, answer);
+    kind = kribbelsteen_ring_above(ray, ring, 0, answer);
     printf("ring %u %g\n", (unsigned)kind, answer[0]);
-    kind = kribbelsteen_ring(beside, ring, answer);
+    kind = kribbelsteen_ring_above(beside, ring, 0, answer);
     printf("ring %u %g\n", (unsigned)kind, answer[0]);
-    kind = kribbelsteen_polygon(ray, square, 12, answer);
+    kind = kribbelsteen_polygon_above(ray, square, 12, 0, answer);
     printf("polygon %u %g\n", (unsigned)kind, answer[0]);
-    kind = kribbelsteen_polygon(beside, square, 12, answer);
+    kind = kribbelsteen_polygon_above(beside, square, 12, 0, answer);
     printf("polygon %u %g\n", (unsigned)kind, answer[0]);
-    kind = kribbelsteen_polygon(ray, square, 11, answer);
+    kind = kribbelsteen_polygon_above(ray, square, 11, 0, answer);
     printf("polygon %u %g\n", (unsigned)kind, answer[0]);
     kind = kribbelsteen_fresnel(1, 1, 3, answer);
     printf("fresnel %u %g %g %g\n", (unsigned)kind, answer[0], answer[1], answer[2]);
@@ -136,6 +137,16 @@ static void print_floats(void) {
     printf("fresnel %u %g %g %g\n", (unsigned)kind, answer[0], answer[1], answer[2]);
     kind = kribbelsteen_fresnel(0, 1.5, 1.5, answer);
     printf("fresnel %u %g %g %g\n", (unsigned)kind, answer[0], answer[1], answer[2]);
+    kind = kribbelsteen_sphere(leaving, sphere, answer);
+    printf("leaving, sphere %u %g\n", (unsigned)kind, answer[0]);
+    kind = kribbelsteen_ring(leaving, ring, answer);
+    printf("leaving, ring %u %g\n", (unsigned)kind, answer[0]);
+    kind = kribbelsteen_polygon(leaving, square, 12, answer);
+    printf("leaving, polygon %u %g\n", (unsigned)kind, answer[0]);
+    kind = kribbelsteen_polygon_above(leaving, square, 12, 0, answer);
+    printf("leaving, polygon above 0: %u %g\n", (unsigned)kind, answer[0]);
+    kind = kribbelsteen_sphere_above(ray, sphere, -1, answer);
+    printf("sphere above -1: %u %g\n", (unsigned)kind, answer[0]);
     printf("root %.17g\n", kribbelsteen_root(2));
     printf("root of -1 is %s\n", isnan(kribbelsteen_root(-1)) ? "none" : "a number");
 }
@@ -147,7 +158,9 @@ static void print_screen(const char *scene) {
     kribbelsteen_read(KRIBBELSTEEN_NEW, (const uint8_t *)scene, strlen(scene), records, ROOM * KRIBBELSTEEN_RECORD, reals, 32, counts);
     for (number = 1; number <= counts[1] + 1; number++) {
         uint32_t kind = kribbelsteen_polygon_in_table(ray, records, ROOM * KRIBBELSTEEN_RECORD, counts[1], number, reals, 32, answer);
-        printf("screen %zu: %u %g\n", number, (unsigned)kind, answer[0]);
+        printf("screen %zu: %u %g", number, (unsigned)kind, answer[0]);
+        kind = kribbelsteen_polygon_in_table_above(ray, records, ROOM * KRIBBELSTEEN_RECORD, counts[1], number, reals, 32, 2.5, answer);
+        printf(", above 2.5: %u %g\n", (unsigned)kind, answer[0]);
     }
 }
 

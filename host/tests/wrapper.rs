@@ -244,6 +244,29 @@ fn rays_hit_miss_and_are_refused() {
     assert_eq!(ring(&from(0.5, -3.0), &Ring { outer: 1.0, ..flat }), Err(Step::OutOfRange));
 }
 
+#[test]
+fn rays_start_too_close() {
+    let from = |z: f64| Ray { origin: [0.0, 0.0, z], direction: [0.0, 0.0, 1.0] };
+    let unit = Sphere { centre: [0.0; 3], radius: 1.0 };
+    // From the sphere's own surface, and from just before it
+    assert_eq!((sphere(&from(-1.0), &unit), sphere_above(&from(-1.0), &unit, 0.0)), (Ok(Some(2.0)), Ok(Some(2.0))));
+    assert_eq!(sphere_above(&from(-1.0009765625), &unit, 0.0), Ok(Some(0.0009765625)));
+    assert_eq!(sphere(&from(-1.0009765625), &unit), Ok(Some(2.0009765625)));
+    assert_eq!(sphere_above(&from(-3.0), &unit, 2.0), Ok(Some(4.0)));
+    assert_eq!(sphere_above(&from(-3.0), &unit, 4.0), Ok(None));
+    assert_eq!(sphere_above(&from(-3.0), &unit, -0.0), Ok(Some(2.0)));
+    assert_eq!(sphere_above(&from(-3.0), &unit, -5e-324), Err(Step::OutOfRange));
+    assert_eq!(sphere_above(&from(-3.0), &Sphere { radius: -1.0, ..unit }, f64::INFINITY), Err(Step::NotFinite));
+    let flat = Ring { centre: [0.0; 3], normal: [0.0, 0.0, 1.0], inner: 0.0, outer: 2.0 };
+    assert_eq!((ring(&from(-0.001), &flat), ring_above(&from(-0.001), &flat, 0.0)), (Ok(None), Ok(Some(LEAST))));
+    let square = [[-1.0, -1.0, 0.0], [1.0, -1.0, 0.0], [1.0, 1.0, 0.0], [-1.0, 1.0, 0.0]];
+    assert_eq!(
+        (polygon(&from(-0.001), &square), polygon_above(&from(-0.001), &square, 0.0)),
+        (Ok(None), Ok(Some(LEAST)))
+    );
+    assert_eq!(polygon(&from(-0.001_f64.next_up()), &square), Ok(Some(LEAST.next_up())));
+}
+
 /// A screen with a hole, joined to its rim by an edge that is gone along twice.
 const SCREEN: &[u8] = b"void plastic trim 0 0 5 .2 .2 .2 0 0\n\
     trim polygon screen 0 0 30 0 0 0 4 0 0 4 3 0 0 3 0 0 0 0 1 1 0 1 2 0 3 2 0 3 1 0 1 1 0\n";
@@ -264,6 +287,10 @@ fn rays_hit_polygons() {
     let scene = Scene::read(Mode::New, SCREEN, &mut records, &mut reals).expect("well-formed");
     assert_eq!(scene.polygon(&down(0.5, 0.5), 2), Ok(Some(5.0)));
     assert_eq!(scene.polygon(&down(2.0, 1.5), 2), Ok(None));
+    assert_eq!(
+        (scene.polygon_above(&down(0.5, 0.5), 2, 4.5), scene.polygon_above(&down(0.5, 0.5), 2, 5.0)),
+        (Ok(Some(5.0)), Ok(None))
+    );
     assert_eq!(scene.polygon(&down(0.5, 0.5), 1), Err(PolygonRefusal::Question(Question::BadTable)));
     assert_eq!(scene.polygon(&down(0.5, 0.5), 3), Err(PolygonRefusal::Question(Question::NoSuchPrimitive)));
     assert_eq!(scene.polygon(&down(0.5, f64::INFINITY), 2), Err(PolygonRefusal::Step(Step::NotFinite)));
@@ -271,6 +298,10 @@ fn rays_hit_polygons() {
     assert_eq!(
         polygon_in_table(&down(0.5, 0.5), &records, 2, 2, &reals[..34]).map_err(PolygonRefusal::number),
         Err(18)
+    );
+    assert_eq!(
+        polygon_in_table_above(&down(0.5, 0.5), &records, 2, 2, &reals, -1.0).map_err(PolygonRefusal::number),
+        Err(21)
     );
 }
 

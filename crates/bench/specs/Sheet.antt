@@ -10,6 +10,7 @@ use Rattle.scene.specs.Reading.{Reading, read, accepted, refused}
 use Rattle.scene.specs.Record.{fullRoom}
 use Rattle.scene.specs.declared.Mode.the-variants.{New}
 use Rattle.steps.specs.declared.Vector.{Vector}
+use Rattle.hits.specs.Ahead.{defaultLeast}
 use Rattle.hits.specs.Outcome as hits
 use Rattle.hits.specs.Outcome.{hit, miss}
 use Rattle.hits.specs.Sphere.{sphereHit}
@@ -43,11 +44,11 @@ pub data Answer : Type 0 where
 abbrev vector : (x y z : Float) → Vector
 vector x y z = record { x = x; y = y; z = z }
 
--- what the definitions give: texts in the new reading, with all the room there is, and "Sphere of radius 1 at the origin, direction (0,0,1)"
+-- what the definitions give: texts in the new reading, with all the room there is, the default least distance, and "Sphere of radius 1 at the origin, direction (0,0,1)"
 abbrev pub answer : Question → Answer
 answer (text t) = reads (read (fullRoom New) t)
 answer (numeral w) = numbers (numeralOf w)
-answer (sphereFrom x y z) = meets (sphereHit record { origin = vector x y z; direction = vector (whole 0) (whole 0) (whole 1) } record { centre = vector (whole 0) (whole 0) (whole 0); radius = whole 1 })
+answer (sphereFrom x y z) = meets (sphereHit defaultLeast record { origin = vector x y z; direction = vector (whole 0) (whole 0) (whole 1) } record { centre = vector (whole 0) (whole 0) (whole 0); radius = whole 1 })
 answer (fresnelAt c m n) = reflects (fresnelOf c m n)
 
 pub record Row : Type 0 where

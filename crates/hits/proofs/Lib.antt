@@ -1,0 +1,4 @@
+pub mod ShapeLaws
+pub mod LeastLaws
+pub mod ZeroLaws
+pub mod LargerLaws

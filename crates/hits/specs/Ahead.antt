@@ -1,8 +1,11 @@
 -- Which distances along a ray count.
-use mathlib.Core.Bool.{Bool}
-use lib.Ieee.{Float, lt}
-use Rattle.steps.specs.Step.{+0}
+use mathlib.Core.Bool.{Bool, false}
+use lib.Ieee.{Float, binary64, lt, round}
 
--- a distance counts where it is "above 0": what the ray meets at its origin or behind it is no hit
-unfoldable pub ahead : (t : Float) → Bool
-ahead t = lt +0 t
+-- "Hits now need a distance above a least one": what the ray meets at that distance or before it is no hit
+unfoldable pub ahead : (least t : Float) → Bool
+ahead l t = lt l t
+
+-- "the default becomes 0.001": the double nearest to it
+unfoldable pub defaultLeast : Float
+defaultLeast = round binary64 false 1 1000

@@ -5,7 +5,8 @@ use lib.Ieee.Scale.{finite}
 use Rattle.steps.specs.Step.{_⊗_, +0}
 use Rattle.steps.specs.Vectors.{along, dot, finiteVector, minus}
 use Rattle.hits.specs.Outcome.{Outcome, hit, miss, refused}
-use Rattle.hits.specs.Plane.{planeHit}
+use Rattle.hits.specs.Plane.{inPlane}
+use Rattle.hits.specs.Shape.{Shape, hitAbove}
 use Rattle.hits.specs.declared.Ray.{Ray}
 use Rattle.hits.specs.declared.Ring.{Ring}
 
@@ -19,15 +20,12 @@ onRing ray g t =
     cond (not (finite s && finite inner² && finite outer²)) (refused 20)
     (cond (le inner² s && le s outer²) (hit t) miss)
 
--- what the hit of the ring's plane comes to
-abbrev pub withinRing : Ray → Ring → Outcome → Outcome
-withinRing ray g (hit t) = onRing ray g t
-withinRing ray g miss = miss
-withinRing ray g (refused n) = refused n
+abbrev pub ringShape : Ray → Ring → Shape
+ringShape ray g = record {
+  allFinite = finiteVector (ray .origin) && finiteVector (ray .direction) && finiteVector (g .centre) && finiteVector (g .normal) && finite (g .inner) && finite (g .outer);
+  inRange = le +0 (g .inner) && lt (g .inner) (g .outer);
+  meets = inPlane ray (g .centre) (g .normal) (onRing ray g);
+}
 
--- "Inputs are tested first, 20 before 21"
-unfoldable pub ringHit : Ray → Ring → Outcome
-ringHit ray g =
-    cond (not (finiteVector (ray .origin) && finiteVector (ray .direction) && finiteVector (g .centre) && finiteVector (g .normal) && finite (g .inner) && finite (g .outer))) (refused 20)
-    (cond (not (le +0 (g .inner) && lt (g .inner) (g .outer))) (refused 21)
-    (withinRing ray g (planeHit ray (g .centre) (g .normal))))
+abbrev pub ringHit : (least : Float) → Ray → Ring → Outcome
+ringHit l ray g = hitAbove l (ringShape ray g)

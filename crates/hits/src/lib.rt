@@ -1,4 +1,4 @@
-// Where a ray hits a sphere or a ring.
+// Where a ray hits a sphere or a ring: at a distance above a least one.
 use root::root;
 use steps::Vector;
 use steps::along;
@@ -7,12 +7,17 @@ use steps::is_finite;
 use steps::is_finite_vector;
 use steps::minus;
 use steps::step;
+ghost use mathlib.Core.List.{_∷_, []};
 ghost use mathlib.Core.Path.{_≡_};
-ghost use Rattle.hits.specs.Ahead.{ahead};
+ghost use Rattle.hits.specs.Ahead.{ahead, defaultLeast};
 ghost use Rattle.hits.specs.Outcome.{outcomeOf};
 ghost use Rattle.hits.specs.Plane.{planeHit};
 ghost use Rattle.hits.specs.Ring.{onRing, ringHit};
-ghost use Rattle.hits.specs.Sphere.{firstAhead, fromCentre, solved, sphereHit};
+ghost use Rattle.hits.specs.Shape.{firstAhead, hitOf};
+ghost use Rattle.hits.specs.Sphere.{fromCentre, hitAt, solved, sphereHit};
+
+// The least distance of a call that names none.
+pub const LEAST: f64 = 0.001;
 
 pub struct Ray {
     pub origin: Vector,
@@ -39,18 +44,18 @@ pub enum Hit {
 }
 
 // The one test of a distance, for every shape.
-fn is_ahead(t: f64) -> bool
-    ensures { λ r. ⌜ r ≡ ahead t ⌝ }
+fn is_ahead(least: f64, t: f64) -> bool
+    ensures { λ r. ⌜ r ≡ ahead least t ⌝ }
 {
-    t > 0.0
+    t > least
 }
 
-fn first_ahead(near: f64, far: f64) -> Hit
-    ensures { λ r. ⌜ outcomeOf r ≡ firstAhead near far ⌝ }
+fn first_ahead(least: f64, near: f64, far: f64) -> Hit
+    ensures { λ r. ⌜ outcomeOf r ≡ firstAhead least (hitAt near ∷ hitAt far ∷ []) ⌝ }
 {
-    if is_ahead(near) {
+    if is_ahead(least, near) {
         Hit::At(near)
-    } else if is_ahead(far) {
+    } else if is_ahead(least, far) {
         Hit::At(far)
     } else {
         Hit::Miss
@@ -58,8 +63,8 @@ fn first_ahead(near: f64, far: f64) -> Hit
 }
 
 // From the discriminant on.
-fn solve(a: f64, b: f64, discriminant: f64) -> Hit
-    ensures { λ r. ⌜ outcomeOf r ≡ solved a b discriminant ⌝ }
+fn solve(least: f64, a: f64, b: f64, discriminant: f64) -> Hit
+    ensures { λ r. ⌜ outcomeOf r ≡ hitOf least (solved a b discriminant) ⌝ }
 {
     if !is_finite(discriminant) {
         return Hit::Refused(20);
@@ -73,12 +78,12 @@ fn solve(a: f64, b: f64, discriminant: f64) -> Hit
     if !(is_finite(near) & is_finite(far)) {
         return Hit::Refused(20);
     }
-    first_ahead(near, far)
+    first_ahead(least, near, far)
 }
 
 // From the origin as seen from the centre on.
-fn from_centre(p: Vector, d: Vector, radius: f64) -> Hit
-    ensures { λ r. ⌜ outcomeOf r ≡ fromCentre p d radius ⌝ }
+fn from_centre(least: f64, p: Vector, d: Vector, radius: f64) -> Hit
+    ensures { λ r. ⌜ outcomeOf r ≡ hitOf least (fromCentre p d radius) ⌝ }
 {
     let a = dot(d, d);
     if !(is_finite_vector(p) & is_finite(a)) {
@@ -89,32 +94,40 @@ fn from_centre(p: Vector, d: Vector, radius: f64) -> Hit
     }
     let b = dot(p, d);
     let q = step(dot(p, p) - radius * radius);
-    solve(a, b, step(b * b - a * q))
+    solve(least, a, b, step(b * b - a * q))
 }
 
-pub fn sphere_hit(ray: Ray, sphere: Sphere) -> Hit
-    ensures { λ r. ⌜ outcomeOf r ≡ sphereHit ray sphere ⌝ }
+// With a least distance by name.
+pub fn sphere_hit_above(ray: Ray, sphere: Sphere, least: f64) -> Hit
+    ensures { λ r. ⌜ outcomeOf r ≡ sphereHit least ray sphere ⌝ }
 {
     let finite = is_finite_vector(ray.origin)
         & is_finite_vector(ray.direction)
         & is_finite_vector(sphere.centre)
         & is_finite(sphere.radius);
-    if !finite {
+    if !(finite & is_finite(least)) {
         return Hit::Refused(20);
     }
-    if !(sphere.radius > 0.0) {
+    if !((sphere.radius > 0.0) & (0.0 <= least)) {
         return Hit::Refused(21);
     }
     from_centre(
+        least,
         minus(ray.origin, sphere.centre),
         ray.direction,
         sphere.radius,
     )
 }
 
+pub fn sphere_hit(ray: Ray, sphere: Sphere) -> Hit
+    ensures { λ r. ⌜ outcomeOf r ≡ sphereHit defaultLeast ray sphere ⌝ }
+{
+    sphere_hit_above(ray, sphere, LEAST)
+}
+
 // The plane through c with the normal n.
-pub fn plane_hit(ray: Ray, c: Vector, n: Vector) -> Hit
-    ensures { λ r. ⌜ outcomeOf r ≡ planeHit ray c n ⌝ }
+pub fn plane_hit(ray: Ray, c: Vector, n: Vector, least: f64) -> Hit
+    ensures { λ r. ⌜ outcomeOf r ≡ planeHit least ray c n ⌝ }
 {
     let m = dot(ray.direction, n);
     if !is_finite(m) {
@@ -127,7 +140,11 @@ pub fn plane_hit(ray: Ray, c: Vector, n: Vector) -> Hit
     if !is_finite(t) {
         return Hit::Refused(20);
     }
-    if is_ahead(t) { Hit::At(t) } else { Hit::Miss }
+    if is_ahead(least, t) {
+        Hit::At(t)
+    } else {
+        Hit::Miss
+    }
 }
 
 // Whether what the ray meets at the distance t in the ring's plane is the ring.
@@ -148,8 +165,9 @@ fn on_ring(ray: Ray, ring: Ring, t: f64) -> Hit
     }
 }
 
-pub fn ring_hit(ray: Ray, ring: Ring) -> Hit
-    ensures { λ r. ⌜ outcomeOf r ≡ ringHit ray ring ⌝ }
+// With a least distance by name.
+pub fn ring_hit_above(ray: Ray, ring: Ring, least: f64) -> Hit
+    ensures { λ r. ⌜ outcomeOf r ≡ ringHit least ray ring ⌝ }
 {
     let finite = is_finite_vector(ray.origin)
         & is_finite_vector(ray.direction)
@@ -157,15 +175,22 @@ pub fn ring_hit(ray: Ray, ring: Ring) -> Hit
         & is_finite_vector(ring.normal)
         & is_finite(ring.inner)
         & is_finite(ring.outer);
-    if !finite {
+    if !(finite & is_finite(least)) {
         return Hit::Refused(20);
     }
-    if !((0.0 <= ring.inner) & (ring.inner < ring.outer)) {
+    let in_range = (0.0 <= ring.inner) & (ring.inner < ring.outer);
+    if !(in_range & (0.0 <= least)) {
         return Hit::Refused(21);
     }
-    match plane_hit(ray, ring.centre, ring.normal) {
+    match plane_hit(ray, ring.centre, ring.normal, least) {
         Hit::At(t) => on_ring(ray, ring, t),
         Hit::Miss => Hit::Miss,
         Hit::Refused(n) => Hit::Refused(n),
     }
+}
+
+pub fn ring_hit(ray: Ray, ring: Ring) -> Hit
+    ensures { λ r. ⌜ outcomeOf r ≡ ringHit defaultLeast ray ring ⌝ }
+{
+    ring_hit_above(ray, ring, LEAST)
 }

@@ -2,12 +2,14 @@
 // answer.
 use fresnel::Reflection;
 use hits::Hit;
+use hits::LEAST;
 use hits::Ray;
 use hits::Ring;
 use hits::Sphere;
 use steps::Vector;
 ghost use mathlib.Core.Path.{_≡_};
 ghost use Rattle.fresnel.specs.Fresnel.{fresnelOf};
+ghost use Rattle.hits.specs.Ahead.{defaultLeast};
 ghost use Rattle.hits.specs.Outcome.{outcomeOf};
 ghost use Rattle.hits.specs.Ring.{ringHit};
 ghost use Rattle.hits.specs.Sphere.{sphereHit};
@@ -69,20 +71,45 @@ pub fn tell_hit(hit: Hit, answer: &mut [f64; 1]) -> u32
     }
 }
 
-// A ray on a sphere: 0 hit, 1 miss, or the refusal's number, and the distance.
-pub fn tell_sphere(ray: &[f64; 6], sphere: &[f64; 4], answer: &mut [f64; 1]) -> u32
-    ensures { λ r. ⌜ r ≡ hitKind (sphereHit (rayIn (now (ray .entry))) (sphereIn (now (sphere .entry)))) ⌝ }
-    ensures { λ r. ⌜ now (answer .exit) ≡ hitValues (sphereHit (rayIn (now (ray .entry))) (sphereIn (now (sphere .entry)))) ⌝ }
+// A ray on a sphere, above a least distance: 0 hit, 1 miss, or the refusal's number, and the distance.
+pub fn tell_sphere_above(
+    ray: &[f64; 6],
+    sphere: &[f64; 4],
+    least: f64,
+    answer: &mut [f64; 1],
+) -> u32
+    ensures { λ r. ⌜ r ≡ hitKind (sphereHit least (rayIn (now (ray .entry))) (sphereIn (now (sphere .entry)))) ⌝ }
+    ensures { λ r. ⌜ now (answer .exit) ≡ hitValues (sphereHit least (rayIn (now (ray .entry))) (sphereIn (now (sphere .entry)))) ⌝ }
 {
-    tell_hit(hits::sphere_hit(ray_in(ray), sphere_in(sphere)), answer)
+    tell_hit(
+        hits::sphere_hit_above(ray_in(ray), sphere_in(sphere), least),
+        answer,
+    )
 }
 
-// A ray on a ring: 0 hit, 1 miss, or the refusal's number, and the distance.
-pub fn tell_ring(ray: &[f64; 6], ring: &[f64; 8], answer: &mut [f64; 1]) -> u32
-    ensures { λ r. ⌜ r ≡ hitKind (ringHit (rayIn (now (ray .entry))) (ringIn (now (ring .entry)))) ⌝ }
-    ensures { λ r. ⌜ now (answer .exit) ≡ hitValues (ringHit (rayIn (now (ray .entry))) (ringIn (now (ring .entry)))) ⌝ }
+pub fn tell_sphere(ray: &[f64; 6], sphere: &[f64; 4], answer: &mut [f64; 1]) -> u32
+    ensures { λ r. ⌜ r ≡ hitKind (sphereHit defaultLeast (rayIn (now (ray .entry))) (sphereIn (now (sphere .entry)))) ⌝ }
+    ensures { λ r. ⌜ now (answer .exit) ≡ hitValues (sphereHit defaultLeast (rayIn (now (ray .entry))) (sphereIn (now (sphere .entry)))) ⌝ }
 {
-    tell_hit(hits::ring_hit(ray_in(ray), ring_in(ring)), answer)
+    tell_sphere_above(ray, sphere, LEAST, answer)
+}
+
+// A ray on a ring, above a least distance: 0 hit, 1 miss, or the refusal's number, and the distance.
+pub fn tell_ring_above(ray: &[f64; 6], ring: &[f64; 8], least: f64, answer: &mut [f64; 1]) -> u32
+    ensures { λ r. ⌜ r ≡ hitKind (ringHit least (rayIn (now (ray .entry))) (ringIn (now (ring .entry)))) ⌝ }
+    ensures { λ r. ⌜ now (answer .exit) ≡ hitValues (ringHit least (rayIn (now (ray .entry))) (ringIn (now (ring .entry)))) ⌝ }
+{
+    tell_hit(
+        hits::ring_hit_above(ray_in(ray), ring_in(ring), least),
+        answer,
+    )
+}
+
+pub fn tell_ring(ray: &[f64; 6], ring: &[f64; 8], answer: &mut [f64; 1]) -> u32
+    ensures { λ r. ⌜ r ≡ hitKind (ringHit defaultLeast (rayIn (now (ray .entry))) (ringIn (now (ring .entry)))) ⌝ }
+    ensures { λ r. ⌜ now (answer .exit) ≡ hitValues (ringHit defaultLeast (rayIn (now (ray .entry))) (ringIn (now (ring .entry)))) ⌝ }
+{
+    tell_ring_above(ray, ring, LEAST, answer)
 }
 
 // Fresnel's coefficients: 0 for coefficients, 1 total reflection, or the refusal's number, and FTE, FTM, F.

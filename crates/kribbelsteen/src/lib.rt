@@ -5,6 +5,7 @@ ghost use mathlib.Core.Path.{_≡_};
 ghost use lib.ListN.{length, replicate};
 ghost use Rattle.finish.specs.Question.{nameRefusal};
 ghost use Rattle.fresnel.specs.Fresnel.{fresnelOf};
+ghost use Rattle.hits.specs.Ahead.{defaultLeast};
 ghost use Rattle.hits.specs.Ring.{ringHit};
 ghost use Rattle.hits.specs.Sphere.{sphereHit};
 ghost use Rattle.host_lines.specs.Host.{HostLine};
@@ -201,19 +202,47 @@ pub extern "C" fn kribbelsteen_sphere(
     sphere: &[f64; 4],
     answer: &mut [f64; 1],
 ) -> u32
-    ensures { λ r. ⌜ r ≡ hitKind (sphereHit (rayIn (now (ray .entry))) (sphereIn (now (sphere .entry)))) ⌝ }
-    ensures { λ r. ⌜ now (answer .exit) ≡ hitValues (sphereHit (rayIn (now (ray .entry))) (sphereIn (now (sphere .entry)))) ⌝ }
+    ensures { λ r. ⌜ r ≡ hitKind (sphereHit defaultLeast (rayIn (now (ray .entry))) (sphereIn (now (sphere .entry)))) ⌝ }
+    ensures { λ r. ⌜ now (answer .exit) ≡ hitValues (sphereHit defaultLeast (rayIn (now (ray .entry))) (sphereIn (now (sphere .entry)))) ⌝ }
 {
     host_rays::tell_sphere(ray, sphere, answer)
+}
+
+// The same above a least distance.
+#[no_mangle]
+pub extern "C" fn kribbelsteen_sphere_above(
+    ray: &[f64; 6],
+    sphere: &[f64; 4],
+    least: f64,
+    answer: &mut [f64; 1],
+) -> u32
+    ensures { λ r. ⌜ r ≡ hitKind (sphereHit least (rayIn (now (ray .entry))) (sphereIn (now (sphere .entry)))) ⌝ }
+    ensures { λ r. ⌜ now (answer .exit) ≡ hitValues (sphereHit least (rayIn (now (ray .entry))) (sphereIn (now (sphere .entry)))) ⌝ }
+{
+    host_rays::tell_sphere_above(ray, sphere, least, answer)
 }
 
 // A ray on a ring: 0 hit, 1 miss, or the refusal's number, and the distance.
 #[no_mangle]
 pub extern "C" fn kribbelsteen_ring(ray: &[f64; 6], ring: &[f64; 8], answer: &mut [f64; 1]) -> u32
-    ensures { λ r. ⌜ r ≡ hitKind (ringHit (rayIn (now (ray .entry))) (ringIn (now (ring .entry)))) ⌝ }
-    ensures { λ r. ⌜ now (answer .exit) ≡ hitValues (ringHit (rayIn (now (ray .entry))) (ringIn (now (ring .entry)))) ⌝ }
+    ensures { λ r. ⌜ r ≡ hitKind (ringHit defaultLeast (rayIn (now (ray .entry))) (ringIn (now (ring .entry)))) ⌝ }
+    ensures { λ r. ⌜ now (answer .exit) ≡ hitValues (ringHit defaultLeast (rayIn (now (ray .entry))) (ringIn (now (ring .entry)))) ⌝ }
 {
     host_rays::tell_ring(ray, ring, answer)
+}
+
+// The same above a least distance.
+#[no_mangle]
+pub extern "C" fn kribbelsteen_ring_above(
+    ray: &[f64; 6],
+    ring: &[f64; 8],
+    least: f64,
+    answer: &mut [f64; 1],
+) -> u32
+    ensures { λ r. ⌜ r ≡ hitKind (ringHit least (rayIn (now (ray .entry))) (ringIn (now (ring .entry)))) ⌝ }
+    ensures { λ r. ⌜ now (answer .exit) ≡ hitValues (ringHit least (rayIn (now (ray .entry))) (ringIn (now (ring .entry)))) ⌝ }
+{
+    host_rays::tell_ring_above(ray, ring, least, answer)
 }
 
 // A ray on a polygon: 0 hit, 1 miss, or the refusal's number, and the distance.
@@ -223,10 +252,24 @@ pub extern "C" fn kribbelsteen_polygon(
     corners: &[f64],
     answer: &mut [f64; 1],
 ) -> u32
-    ensures { λ r. ⌜ r ≡ hitKind (polygonHit (rayIn (now (ray .entry))) (now (corners .entry))) ⌝ }
-    ensures { λ r. ⌜ now (answer .exit) ≡ hitValues (polygonHit (rayIn (now (ray .entry))) (now (corners .entry))) ⌝ }
+    ensures { λ r. ⌜ r ≡ hitKind (polygonHit defaultLeast (rayIn (now (ray .entry))) (now (corners .entry))) ⌝ }
+    ensures { λ r. ⌜ now (answer .exit) ≡ hitValues (polygonHit defaultLeast (rayIn (now (ray .entry))) (now (corners .entry))) ⌝ }
 {
     host_polygon::tell_polygon(ray, corners, answer)
+}
+
+// The same above a least distance.
+#[no_mangle]
+pub extern "C" fn kribbelsteen_polygon_above(
+    ray: &[f64; 6],
+    corners: &[f64],
+    least: f64,
+    answer: &mut [f64; 1],
+) -> u32
+    ensures { λ r. ⌜ r ≡ hitKind (polygonHit least (rayIn (now (ray .entry))) (now (corners .entry))) ⌝ }
+    ensures { λ r. ⌜ now (answer .exit) ≡ hitValues (polygonHit least (rayIn (now (ray .entry))) (now (corners .entry))) ⌝ }
+{
+    host_polygon::tell_polygon_above(ray, corners, least, answer)
 }
 
 // A ray on a polygon of a table: 0 hit, 1 miss, or the refusal's number, and the distance.
@@ -239,10 +282,27 @@ pub extern "C" fn kribbelsteen_polygon_in_table(
     reals: &[f64],
     answer: &mut [f64; 1],
 ) -> u32
-    ensures { λ r. ⌜ r ≡ hitKind (hitInTable (rayIn (now (ray .entry))) (now (records .entry)) count number (now (reals .entry))) ⌝ }
-    ensures { λ r. ⌜ now (answer .exit) ≡ hitValues (hitInTable (rayIn (now (ray .entry))) (now (records .entry)) count number (now (reals .entry))) ⌝ }
+    ensures { λ r. ⌜ r ≡ hitKind (hitInTable defaultLeast (rayIn (now (ray .entry))) (now (records .entry)) count number (now (reals .entry))) ⌝ }
+    ensures { λ r. ⌜ now (answer .exit) ≡ hitValues (hitInTable defaultLeast (rayIn (now (ray .entry))) (now (records .entry)) count number (now (reals .entry))) ⌝ }
 {
     host_polygon::tell_in_table(ray, records, count, number, reals, answer)
+}
+
+// The same above a least distance.
+#[no_mangle]
+pub extern "C" fn kribbelsteen_polygon_in_table_above(
+    ray: &[f64; 6],
+    records: &[u32],
+    count: usize,
+    number: usize,
+    reals: &[f64],
+    least: f64,
+    answer: &mut [f64; 1],
+) -> u32
+    ensures { λ r. ⌜ r ≡ hitKind (hitInTable least (rayIn (now (ray .entry))) (now (records .entry)) count number (now (reals .entry))) ⌝ }
+    ensures { λ r. ⌜ now (answer .exit) ≡ hitValues (hitInTable least (rayIn (now (ray .entry))) (now (records .entry)) count number (now (reals .entry))) ⌝ }
+{
+    host_polygon::tell_in_table_above(ray, records, count, number, reals, least, answer)
 }
 
 // Fresnel's coefficients: 0 for coefficients, 1 total reflection, or the refusal's number, and FTE, FTM, F.

@@ -1,2 +1,3 @@
 pub mod EdgeLaws
 pub mod HitLaws
+pub mod ZeroLaws

@@ -1,2 +1,3 @@
 -- To be believed.
 pub mod Polygon
+pub mod FromZero

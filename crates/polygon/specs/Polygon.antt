@@ -1,14 +1,15 @@
 -- "Screens are polygons": where a ray hits one.
-use mathlib.Core.Bool.{true, false, not, cond, _&&_, _||_}
+use mathlib.Core.Bool.{true, false, not, cond, _&&_}
 use mathlib.Core.List.{List, [], _∷_}
 use mathlib.Core.Option.{none, some}
 use Prim.Native.Nat.{_%_}
-use lib.Dec.{eqb, ltb}
+use lib.Dec.{eqb, leb}
 use lib.Ieee.{Float}
 use lib.Ieee.Scale.{finite}
 use lib.ListN.{length}
 use Rattle.hits.specs.Outcome.{Outcome, hit, miss, refused}
-use Rattle.hits.specs.Plane.{planeHit}
+use Rattle.hits.specs.Plane.{inPlane}
+use Rattle.hits.specs.Shape.{Meets, Shape, fails, hitAbove}
 use Rattle.hits.specs.declared.Ray.{Ray}
 use Rattle.laws.specs.Runs.{all}
 use Rattle.steps.specs.Vectors.{along, finiteVector}
@@ -29,25 +30,23 @@ onPolygon ray n es t =
     let p = along (ray .origin) t (ray .direction) in
     cond (not (finiteVector p)) (refused 20) (atCrossings t (inside (dropped n) p es))
 
--- what the hit of the polygon's plane comes to
-abbrev pub withinPolygon : Ray → (n : Vector) → List Edge → Outcome → Outcome
-withinPolygon ray n es (hit t) = onPolygon ray n es t
-withinPolygon ray n es miss = miss
-withinPolygon ray n es (refused k) = refused k
-
 -- "the distance is found as for a ring, with the first corner for its centre"; "21 also for [..] a zero normal"
-abbrev pub onCorners : Ray → List Vector → Outcome
-onCorners ray [] = refused 21
+abbrev pub onCorners : Ray → List Vector → Meets
+onCorners ray [] = fails 21
 onCorners ray (c ∷ cs) =
     let es = edgesOf (c ∷ cs) in
     let n = normalOf es in
-    cond (not (finiteVector n)) (refused 20)
-    (cond (isZero n) (refused 21)
-    (withinPolygon ray n es (planeHit ray c n)))
+    cond (not (finiteVector n)) (fails 20)
+    (cond (isZero n) (fails 21)
+    (inPlane ray c n (onPolygon ray n es)))
 
--- "Inputs are tested first, 20 before 21"; "21 also for fewer than 3 corners, reals not a multiple of 3"
-unfoldable pub polygonHit : Ray → (reals : List Float) → Outcome
-polygonHit ray rs =
-    cond (not (finiteVector (ray .origin) && finiteVector (ray .direction) && all finite rs)) (refused 20)
-    (cond (ltb (length rs) 9 || not (eqb (length rs % 3) 0)) (refused 21)
-    (onCorners ray (cornersOf rs)))
+-- "21 also for fewer than 3 corners, reals not a multiple of 3"
+abbrev pub polygonShape : Ray → (reals : List Float) → Shape
+polygonShape ray rs = record {
+  allFinite = finiteVector (ray .origin) && finiteVector (ray .direction) && all finite rs;
+  inRange = leb 9 (length rs) && eqb (length rs % 3) 0;
+  meets = onCorners ray (cornersOf rs);
+}
+
+abbrev pub polygonHit : (least : Float) → Ray → (reals : List Float) → Outcome
+polygonHit l ray rs = hitAbove l (polygonShape ray rs)

@@ -9,7 +9,9 @@ ghost use Rattle.edges.specs.Code.{axisOf, crossedOf};
 ghost use Rattle.edges.specs.Corners.{edgesOf, cornersOf};
 ghost use Rattle.edges.specs.Crossing.{inside};
 ghost use Rattle.edges.specs.Normal.{normalOf};
+ghost use Rattle.hits.specs.Ahead.{defaultLeast};
 ghost use Rattle.hits.specs.Outcome.{outcomeOf};
+ghost use Rattle.hits.specs.Shape.{hitOf};
 ghost use Rattle.laws.specs.Runs.{all};
 ghost use Rattle.polygon.specs.Polygon.{onCorners, onPolygon, polygonHit};
 use edges::Dropped;
@@ -20,6 +22,7 @@ use edges::dropped_of;
 use edges::is_zero;
 use edges::sum_of;
 use hits::Hit;
+use hits::LEAST;
 use hits::Ray;
 use steps::Vector;
 use steps::along;
@@ -126,9 +129,9 @@ fn on_polygon(ray: Ray, n: Vector, reals: &[f64], t: f64) -> Hit
 }
 
 // With its corners tested.
-fn on_corners(ray: Ray, reals: &[f64]) -> Hit
+fn on_corners(ray: Ray, reals: &[f64], least: f64) -> Hit
     requires { ⌜ 6 ≤ length (now reals) ⌝ }
-    ensures { λ r. ⌜ outcomeOf r ≡ onCorners ray (cornersOf (now (reals .entry))) ⌝ }
+    ensures { λ r. ⌜ outcomeOf r ≡ hitOf least (onCorners ray (cornersOf (now (reals .entry)))) ⌝ }
 {
     let n = normal(reals);
     if !is_finite_vector(n) {
@@ -137,23 +140,30 @@ fn on_corners(ray: Ray, reals: &[f64]) -> Hit
     if is_zero(n) {
         return Hit::Refused(21);
     }
-    match hits::plane_hit(ray, corner(reals, 0), n) {
+    match hits::plane_hit(ray, corner(reals, 0), n, least) {
         Hit::At(t) => on_polygon(ray, n, reals, t),
         Hit::Miss => Hit::Miss,
         Hit::Refused(k) => Hit::Refused(k),
     }
 }
 
-// Three reals are a corner.
-pub fn polygon_hit(ray: Ray, reals: &[f64]) -> Hit
-    ensures { λ r. ⌜ outcomeOf r ≡ polygonHit ray (now (reals .entry)) ⌝ }
+// Three reals are a corner. With a least distance by name.
+pub fn polygon_hit_above(ray: Ray, reals: &[f64], least: f64) -> Hit
+    ensures { λ r. ⌜ outcomeOf r ≡ polygonHit least ray (now (reals .entry)) ⌝ }
 {
     let finite = is_finite_vector(ray.origin) & is_finite_vector(ray.direction) & all_finite(reals);
-    if !finite {
+    if !(finite & is_finite(least)) {
         return Hit::Refused(20);
     }
-    if (reals.len() < 9) | (reals.len() % 3 != 0) {
+    let in_range = (9 <= reals.len()) & (reals.len() % 3 == 0);
+    if !(in_range & (0.0 <= least)) {
         return Hit::Refused(21);
     }
-    on_corners(ray, reals)
+    on_corners(ray, reals, least)
+}
+
+pub fn polygon_hit(ray: Ray, reals: &[f64]) -> Hit
+    ensures { λ r. ⌜ outcomeOf r ≡ polygonHit defaultLeast ray (now (reals .entry)) ⌝ }
+{
+    polygon_hit_above(ray, reals, LEAST)
 }

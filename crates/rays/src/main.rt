@@ -1,5 +1,6 @@
 // The answer to each case on standard input: a ray at a sphere, a ring or a polygon, a Fresnel value or a root. A case is a line:
-// its kind, and the bits of its doubles in hex.
+// its kind, and the bits of its doubles in hex. A ray's least distance is 0, which the lamp tracer passes by name; kinds that end
+// in _above have it as the last number, and those in _default name none.
 use fresnel::Reflection;
 use hits::Hit;
 use hits::Ray;
@@ -10,10 +11,10 @@ use libc::STDOUT_FILENO;
 use steps::Vector;
 ghost use Prim.Native.Nat.{_+_, _≤_};
 
-// A polygon of 40 corners has the most.
-const NUMBERS: usize = 126;
+// A polygon of 40 corners with a least distance has the most.
+const NUMBERS: usize = 127;
 
-// Enough for it, whose line has 2,149 bytes.
+// Enough for it, whose line has 2,172 bytes.
 const LINE: usize = 2304;
 
 enum Pattern {
@@ -81,7 +82,7 @@ fn read_numbers(line: &[u8], at: usize, numbers: &mut [f64; NUMBERS]) -> usize {
 }
 
 fn vector(numbers: &[f64; NUMBERS], from: usize) -> Vector
-    requires { ⌜ from + 3 ≤ 126 ⌝ }
+    requires { ⌜ from + 3 ≤ 127 ⌝ }
 {
     Vector {
         x: numbers[from],
@@ -156,33 +157,100 @@ fn print_reflection(reflection: Reflection) {
     }
 }
 
-// The numbers behind the ray are the corners.
-fn print_polygon(numbers: &[f64; NUMBERS], count: usize) {
+// Answers the cases of a sphere, and says whether it is one; so with the other shapes.
+fn print_sphere(kind: &[u8], numbers: &[f64; NUMBERS], count: usize) -> bool {
+    if (count == 10) & lexer::same(kind, b"sphere") {
+        print_hit(hits::sphere_hit_above(ray(numbers), sphere(numbers), 0.0));
+        return true;
+    }
+    if (count == 11) & lexer::same(kind, b"sphere_above") {
+        let least = numbers[10];
+        print_hit(hits::sphere_hit_above(ray(numbers), sphere(numbers), least));
+        return true;
+    }
+    if (count == 10) & lexer::same(kind, b"sphere_default") {
+        print_hit(hits::sphere_hit(ray(numbers), sphere(numbers)));
+        return true;
+    }
+    false
+}
+
+fn print_ring(kind: &[u8], numbers: &[f64; NUMBERS], count: usize) -> bool {
+    if (count == 14) & lexer::same(kind, b"ring") {
+        print_hit(hits::ring_hit_above(ray(numbers), ring(numbers), 0.0));
+        return true;
+    }
+    if (count == 15) & lexer::same(kind, b"ring_above") {
+        let least = numbers[14];
+        print_hit(hits::ring_hit_above(ray(numbers), ring(numbers), least));
+        return true;
+    }
+    if (count == 14) & lexer::same(kind, b"ring_default") {
+        print_hit(hits::ring_hit(ray(numbers), ring(numbers)));
+        return true;
+    }
+    false
+}
+
+// The numbers behind the ray, up to `end`.
+fn corners<'a>(numbers: &'a [f64; NUMBERS], end: usize) -> &'a [f64]
+    requires { ⌜ 6 ≤ end ⌝ }
+    requires { ⌜ end ≤ 127 ⌝ }
+{
+    let all = &numbers[..];
+    &all[6..end]
+}
+
+fn print_polygon(kind: &[u8], numbers: &[f64; NUMBERS], count: usize) -> bool {
     if count < 6 {
-        print(b"bad");
-        return;
+        return false;
     }
     if NUMBERS < count {
-        print(b"bad");
-        return;
+        return false;
     }
-    let all = &numbers[..];
-    print_hit(polygon::polygon_hit(ray(numbers), &all[6..count]));
+    if lexer::same(kind, b"polygon") {
+        print_hit(polygon::polygon_hit_above(ray(numbers), corners(numbers, count), 0.0));
+        return true;
+    }
+    if lexer::same(kind, b"polygon_default") {
+        print_hit(polygon::polygon_hit(ray(numbers), corners(numbers, count)));
+        return true;
+    }
+    print_polygon_above(kind, numbers, count)
+}
+
+fn print_polygon_above(kind: &[u8], numbers: &[f64; NUMBERS], count: usize) -> bool
+    requires { ⌜ 6 ≤ count ⌝ }
+    requires { ⌜ count ≤ 127 ⌝ }
+{
+    if count == 6 {
+        return false;
+    }
+    if lexer::same(kind, b"polygon_above") {
+        let least = numbers[count - 1];
+        print_hit(polygon::polygon_hit_above(ray(numbers), corners(numbers, count - 1), least));
+        return true;
+    }
+    false
+}
+
+fn print_shape(kind: &[u8], numbers: &[f64; NUMBERS], count: usize) -> bool {
+    if print_sphere(kind, numbers, count) {
+        return true;
+    }
+    if print_ring(kind, numbers, count) {
+        return true;
+    }
+    print_polygon(kind, numbers, count)
 }
 
 fn print_answer(kind: &[u8], numbers: &[f64; NUMBERS], count: usize) {
-    if (count == 10) & lexer::same(kind, b"sphere") {
-        print_hit(hits::sphere_hit(ray(numbers), sphere(numbers)));
-    } else if (count == 14) & lexer::same(kind, b"ring") {
-        print_hit(hits::ring_hit(ray(numbers), ring(numbers)));
-    } else if lexer::same(kind, b"polygon") {
-        print_polygon(numbers, count);
-    } else if (count == 3) & lexer::same(kind, b"fresnel") {
+    if (count == 3) & lexer::same(kind, b"fresnel") {
         print_reflection(fresnel::fresnel(numbers[0], numbers[1], numbers[2]));
     } else if (count == 1) & lexer::same(kind, b"root") {
         print(b"root");
         print_double(root::root(numbers[0]));
-    } else {
+    } else if !print_shape(kind, numbers, count) {
         print(b"bad");
     }
     print(b"\n");

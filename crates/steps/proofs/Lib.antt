@@ -3,3 +3,4 @@ pub mod StepLaws
 pub mod SignLaws
 pub mod SizeLaws
 pub mod RangeLaws
+pub mod OrderLaws

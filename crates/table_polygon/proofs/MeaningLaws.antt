@@ -87,12 +87,12 @@ module _ (mode : Mode) (text : Bytes) (lent doubles : ℕ) (es : List Entry) (re
   unfolding polygonRefusal
   asked = rw (number-fine (settingsFor mode lent doubles) text es reads lent l e x q (min-le-left 1024 (lent / width)), row)
 
-  means : (ray : Ray) → Means (hitInTable ray rows (length es) n (realImage doubles reading)) ray body
+  means : (least : Float) (ray : Ray) → Means (hitInTable least ray rows (length es) n (realImage doubles reading)) least ray body
   unfolding hitInTable cornersTest recordOf
-  means ray = record {
-    polygon = λ t. rw (asked, eq-eqb (typeIn body) polygonType t, le-leb (r .real + r .reals) (length (realImage doubles reading)) room, row) (ap (polygonHit ray) reals-there);
+  means least ray = record {
+    polygon = λ t. rw (asked, eq-eqb (typeIn body) polygonType t, le-leb (r .real + r .reals) (length (realImage doubles reading)) room, row) (ap (polygonHit least ray) reals-there);
     other = λ t. rw (asked, ne-eqb (typeIn body) polygonType t);
   }
 
 pub meaning : MeaningLaw
-meaning mode text lent doubles es reads l e x q ray = means mode text lent doubles es reads l e x q ray
+meaning mode text lent doubles es reads l e x q least ray = means mode text lent doubles es reads l e x q least ray

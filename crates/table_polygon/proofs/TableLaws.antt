@@ -46,11 +46,11 @@ module _ (table : List ℕ) (count n lent : ℕ) where
 
 -- ---- the hit
 
-module _ (ray : Ray) (table : List ℕ) (count n : ℕ) (reals : List Float) (reason : ℕ) (q : reason ≡ polygonRefusal table count n (length reals)) where
-  pub hit-refused : (reason ≡ 0 → ⊥) → refused reason ≡ hitInTable ray table count n reals
+module _ (least : Float) (ray : Ray) (table : List ℕ) (count n : ℕ) (reals : List Float) (reason : ℕ) (q : reason ≡ polygonRefusal table count n (length reals)) where
+  pub hit-refused : (reason ≡ 0 → ⊥) → refused reason ≡ hitInTable least ray table count n reals
   unfolding hitInTable
   hit-refused h = rw (sym q, ne-eqb reason 0 h)
 
-  pub hit-asked : reason ≡ 0 → (corners : List Float) → corners ≡ realsOf reals (recordIn table n) → polygonHit ray corners ≡ hitInTable ray table count n reals
+  pub hit-asked : reason ≡ 0 → (corners : List Float) → corners ≡ realsOf reals (recordIn table n) → polygonHit least ray corners ≡ hitInTable least ray table count n reals
   unfolding hitInTable
-  hit-asked h corners e = rw (sym q, eq-eqb reason 0 h) (ap (polygonHit ray) e)
+  hit-asked h corners e = rw (sym q, eq-eqb reason 0 h) (ap (polygonHit least ray) e)

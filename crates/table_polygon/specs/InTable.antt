@@ -28,7 +28,7 @@ polygonRefusal table count n lent =
     cond (eqb (numberRefusal table count n) 0) (cornersTest (r .type) (r .real) (r .reals) lent) (numberRefusal table count n)
 
 -- the hit of the polygon whose corners are the record's reals
-unfoldable pub hitInTable : Ray → (table : List ℕ) (count number : ℕ) → (reals : List Float) → Outcome
-hitInTable ray table count n reals =
+unfoldable pub hitInTable : (least : Float) → Ray → (table : List ℕ) (count number : ℕ) → (reals : List Float) → Outcome
+hitInTable least ray table count n reals =
     let reason = polygonRefusal table count n (length reals) in
-    cond (eqb reason 0) (polygonHit ray (realsOf reals (recordIn table n))) (refused reason)
+    cond (eqb reason 0) (polygonHit least ray (realsOf reals (recordIn table n))) (refused reason)

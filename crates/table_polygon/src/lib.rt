@@ -1,9 +1,11 @@
 // Where a ray hits a polygon of a finished table. The tables may hold anything.
 ghost use mathlib.Core.Path.{_≡_};
 ghost use lib.ListN.{length};
+ghost use Rattle.hits.specs.Ahead.{defaultLeast};
 ghost use Rattle.hits.specs.Outcome.{outcomeOf};
 ghost use Rattle.table_polygon.specs.InTable.{cornersTest, hitInTable, polygonRefusal};
 use hits::Hit;
+use hits::LEAST;
 use hits::Ray;
 use kinds::POLYGON;
 use table::KIND;
@@ -42,13 +44,26 @@ fn polygon_refusal(records: &[u32], count: usize, number: usize, lent: usize) ->
     )
 }
 
-// Where a ray hits the polygon of a number.
-pub fn hit_in_table(ray: Ray, records: &[u32], count: usize, number: usize, reals: &[f64]) -> Hit
-    ensures { λ r. ⌜ outcomeOf r ≡ hitInTable ray (now (records .entry)) count number (now (reals .entry)) ⌝ }
+// Where a ray hits the polygon of a number, with a least distance by name.
+pub fn hit_in_table_above(
+    ray: Ray,
+    records: &[u32],
+    count: usize,
+    number: usize,
+    reals: &[f64],
+    least: f64,
+) -> Hit
+    ensures { λ r. ⌜ outcomeOf r ≡ hitInTable least ray (now (records .entry)) count number (now (reals .entry)) ⌝ }
 {
     let reason = polygon_refusal(records, count, number, reals.len());
     if reason != 0 {
         return Hit::Refused(reason);
     }
-    polygon::polygon_hit(ray, table::reals_of(records, reals, number))
+    polygon::polygon_hit_above(ray, table::reals_of(records, reals, number), least)
+}
+
+pub fn hit_in_table(ray: Ray, records: &[u32], count: usize, number: usize, reals: &[f64]) -> Hit
+    ensures { λ r. ⌜ outcomeOf r ≡ hitInTable defaultLeast ray (now (records .entry)) count number (now (reals .entry)) ⌝ }
+{
+    hit_in_table_above(ray, records, count, number, reals, LEAST)
 }

@@ -301,6 +301,23 @@ fn random_of<'a>(random: &mut Random, numbers: &'a mut [f64]) -> &'a mut f64 {
     &mut numbers[at]
 }
 
+/// A least distance for a hit at some distances: one of them, beside one, between two, or any.
+pub fn least(random: &mut Random, distances: &[f64]) -> f64 {
+    match (random.below(8), distances) {
+        (0, _) => special(random),
+        (1, _) => of_any_size(random),
+        (2, _) => *random.pick(&[0.0, -0.0, 5e-324, -5e-324, 0.001, -1.0]),
+        (3, [near, far]) => near + (far - near) * random.unit(),
+        (4, [.., far]) => *far,
+        (5, [near, ..]) => *near,
+        (_, []) => random.unit() * 10.0,
+        _ => {
+            let t = *random.pick(distances);
+            nudged(random, t)
+        }
+    }
+}
+
 /// A cosine and two indices.
 pub fn fresnel(random: &mut Random) -> [f64; 3] {
     if random.percent(15) {

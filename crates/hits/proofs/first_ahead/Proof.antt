@@ -1,5 +1,5 @@
 -- `hits::first_ahead` meets its contract.
-use Rattle.hits.specs.Sphere.{firstAhead}
+use Rattle.hits.specs.Shape.{firstAhead}
 use Rattle.hits.proofs.first_ahead.Statement.{statement}
 use Rattle.hits.proofs.first_ahead.Tie as tie
 

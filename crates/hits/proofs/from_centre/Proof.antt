@@ -5,7 +5,9 @@ use lib.Ieee.{eq, ofBits}
 use Rattle.steps.specs.Step.{_⊖_, _⊗_, +0}
 use Rattle.steps.specs.Vectors.{dot}
 use Rattle.steps.proofs.StepLaws.{sub-l, sub-r}
+use Rattle.hits.proofs.ShapeLaws.{hit-cond}
 use Rattle.hits.specs.Outcome.{refused}
+use Rattle.hits.specs.Shape.{hitOf}
 use Rattle.hits.specs.Sphere.{fromCentre, solved}
 use Rattle.hits.proofs.from_centre.Statement.{statement}
 use Rattle.hits.proofs.from_centre.Tie as tie
@@ -13,11 +15,11 @@ use Rattle.hits.proofs.from_centre.Tie as tie
 -- the definition, by what the first calls gave
 by-calls : (c : tie.After-is-finite) →
     let at-a = c .before .before in let args = at-a .before .args in let p = args .p in let d = args .d in let r = args .radius in let a = at-a .dot .result in
-    fromCentre p d r ≡
+    hitOf (args .least) (fromCentre p d r) ≡
     cond (not (c .before .is-finite-vector .result && c .is-finite .result)) (refused 20)
-    (cond (eq a +0) (refused 21) (solved a (dot p d) (dot p d ⊗ dot p d ⊖ a ⊗ (dot p p ⊖ r ⊗ r))))
+    (cond (eq a +0) (refused 21) (hitOf (args .least) (solved a (dot p d) (dot p d ⊗ dot p d ⊖ a ⊗ (dot p p ⊖ r ⊗ r)))))
 unfolding fromCentre
-by-calls c = simp (← c .before .before .dot .ensures, ← c .before .is-finite-vector .ensures, ← c .is-finite .ensures)
+by-calls c = simp (hit-cond, ← c .before .before .dot .ensures, ← c .before .is-finite-vector .ensures, ← c .is-finite .ensures)
 
 returns : tie.Need-returns
 returns c = simp (by-calls (c .before), c .if1 .taken)

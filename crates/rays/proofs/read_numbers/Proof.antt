@@ -5,10 +5,10 @@ use Rattle.rays.proofs.read_numbers.Statement.{statement}
 use Rattle.rays.proofs.read_numbers.Tie as tie
 
 abbrev Inv-loop : tie.InvT-loop
-Inv-loop line at numbers₀ end₀ count₀ numbers end count = count ≤ 126
+Inv-loop line at numbers₀ end₀ count₀ numbers end count = count ≤ 127
 
 abbrev μ-loop : tie.MeasureT-loop
-μ-loop line at numbers₀ end₀ count₀ numbers end count = 126 - count
+μ-loop line at numbers₀ end₀ count₀ numbers end count = 127 - count
 
 loop-holds : tie.Need-loop-holds Inv-loop μ-loop
 loop-holds c = search needs

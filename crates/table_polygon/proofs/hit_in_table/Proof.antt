@@ -1,31 +1,15 @@
 -- `table_polygon::hit_in_table` meets its contract.
-use mathlib.Core.Path.{_∙_}
-use borrow.Author.Needs.{needs}
-use Rattle.table_polygon.proofs.TableLaws.{hit-asked, hit-refused}
+use mathlib.Core.Path.{_∙_, ap}
+use lib.Ieee.{Float}
+use Rattle.hits.proofs.LeastLaws.{default-bits}
+use Rattle.table_polygon.specs.InTable.{hitInTable}
 use Rattle.table_polygon.proofs.hit_in_table.Statement.{statement}
 use Rattle.table_polygon.proofs.hit_in_table.Tie as tie
 
-polygon-refusal-requires : tie.Need-polygon-refusal-requires
-polygon-refusal-requires c κs = search needs
-
 returns : tie.Need-returns
 returns c =
-    let a = c .before .before .before .before .args in
-    hit-refused (a .ray) (a .records .now) (a .count) (a .number) (a .reals .now) _ (c .before .polygon-refusal .ensures) (c .if1 .taken)
-
-reals-of-requires : tie.Need-reals-of-requires
-reals-of-requires c κs = search needs
-
-polygon-hit-requires : tie.Need-polygon-hit-requires
-polygon-hit-requires c κs = search needs
-
-returns-2 : tie.Need-returns-2
-returns-2 c =
-    let a = c .before .before .before .before .before .before .args in
-    c .polygon-hit .ensures
-    ∙ hit-asked (a .ray) (a .records .now) (a .count) (a .number) (a .reals .now) _ (c .before .before .before .polygon-refusal .ensures) (c .before .before .if1 .left) _ (c .before .reals-of .ensures)
+    let a = c .before .before .before .args in
+    c .hit-in-table-above .ensures ∙ ap (λ (l : Float). hitInTable l (a .ray) (a .records .now) (a .count) (a .number) (a .reals .now)) default-bits
 
 pub hit-in-table-spec : {M : Type 1} → statement M
-hit-in-table-spec =
-    tie.close
-    (tie.spec polygon-refusal-requires returns reals-of-requires polygon-hit-requires returns-2)
+hit-in-table-spec = tie.close (tie.spec (λ c κs. tt) returns)

@@ -54,6 +54,8 @@ const GLASS: u32 = 23;
 
 const ANTIMATTER: u32 = 24;
 
+pub const MIXFUNC: u32 = 25;
+
 // Whether a type is a surface.
 pub fn is_surface(t: u32) -> bool
     ensures { λ r. ⌜ r ≡ isSurface t ⌝ }
@@ -132,7 +134,7 @@ fn strings_rule(t: u32) -> u32
         22 => 0, // interface
         23 => 0, // glass
         24 => ONE_OR_MORE, // antimatter
-        25 => FOUR_OR_MORE, // mixfunc
+        MIXFUNC => FOUR_OR_MORE,
         _ => ANY,
     }
 }
@@ -166,7 +168,7 @@ fn reals_rule(t: u32) -> u32
         22 => 8, // interface
         23 => THREE_OR_FOUR, // glass
         24 => 0, // antimatter
-        25 => ANY, // mixfunc
+        MIXFUNC => ANY,
         _ => ANY,
     }
 }

@@ -1,0 +1,4 @@
+-- To be believed.
+pub mod Graph
+pub mod Paths
+pub mod Answers

@@ -1,0 +1,4 @@
+pub mod SideLaws
+pub mod MarkLaws
+pub mod WalkLaws
+pub mod LeadLaws

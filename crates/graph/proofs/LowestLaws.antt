@@ -41,3 +41,14 @@ lowest-none test (suc k) e n z h = go (le-or-lt n k) (lowest test k) refl (test 
     go c zero p true q e ih = absurd (omega (arith, e))
     go (inl l) zero p false q e ih = ih p n z l
     go (inr l) zero p false q e ih = let m : n ≡ suc k = omega arith in ap test m ∙ q
+
+-- the lowest passes
+pub lowest-passes : (test : ℕ → Bool) (k n : ℕ) → lowest test k ≡ suc n → (test (suc n) ≡ true) × (suc n ≤ k)
+unfolding lowest
+lowest-passes test zero n e = absurd (omega (arith, e))
+lowest-passes test (suc k) n e = go (lowest test k) refl (test (suc k)) refl e (lowest-passes test k n)
+  where
+    go : (l : ℕ) → lowest test k ≡ l → (b : Bool) → test (suc k) ≡ b → orElse l (cond b (suc k) 0) ≡ suc n → (lowest test k ≡ suc n → (test (suc n) ≡ true) × (suc n ≤ k)) → (test (suc n) ≡ true) × (suc n ≤ suc k)
+    go (suc l) p b q e ih = let h = ih (p ∙ e) in (h .0, omega (arith, h .1))
+    go zero p true q e ih = (ap test (sym e) ∙ q, omega (arith, e))
+    go zero p false q e ih = absurd (omega (arith, e))

@@ -13,7 +13,7 @@ use Rattle.graph.specs.Graph.{Graph, goesOn, link}
 use Rattle.graph.specs.Paths.{Way}
 use Rattle.mixtures.specs.Walk.{Reaches, Within}
 
-within-bound : (g : Graph) (size : ℕ) → Within g size → (a b : ℕ) → 0 < a → a < size → link g a b ≡ true → (0 < b) × (b < size)
+pub within-bound : (g : Graph) (size : ℕ) → Within g size → (a b : ℕ) → 0 < a → a < size → link g a b ≡ true → (0 < b) × (b < size)
 within-bound g size w a b z h e = let i = link-inv g a b e in (i .0, go (i .1))
   where
     go : (b ≡ g .nodes a .modifier) ⊎ ((b ≡ g .sides a .foreground) ⊎ ((b ≡ g .sides a .background) ⊎ ⊥)) → b < size

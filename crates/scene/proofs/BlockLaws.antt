@@ -203,18 +203,20 @@ module _ (r : Settings) (p a b q : Bytes) (es : List Entry) (e : read r (p ++ a 
 
 -- ---- the law
 
-pub record Swapped (r : Settings) (text : Bytes) (f : ℕ → ℕ) (old : List Statement) : Type 0 where
+-- the numbers go from old to new by f, and back by g
+pub record Swapped (r : Settings) (text : Bytes) (f g : ℕ → ℕ) (old : List Statement) : Type 0 where
   pub entries : List Entry
   pub reads : read r text ≡ accepted entries
   pub reals : realsUsed (statements entries) ≡ realsUsed old
   pub renamed : Renamed f old (statements entries)
+  pub back : Renamed g (statements entries) old
 
 -- the text with its blocks exchanged, read
 pub read-turned : (r : Settings) (p a b q : Bytes) (es : List Entry) (k : Parts r p a b q es) → parse r gap idle (p ++ b ++ a ++ q ++ newline) ≡ pass gap idle (k .Q ++ (k .A ++ (k .B ++ k .P)))
 read-turned r p a b q es k = ap (parse r gap idle) (append-assoc (p ++ b ++ a) q newline) ∙ join r (p ++ b ++ a) (q ++ newline) (k .A ++ (k .B ++ k .P)) (k .Q) (join r (p ++ b) a (k .B ++ k .P) (k .A) (join r p b (k .P) (k .B) (k .readP) (k .readB)) (k .readA)) (k .readQ)
 
 swapped : (r : Settings) (p a b q : Bytes) (es : List Entry) (k : Parts r p a b q es) → leb (length (p ++ a ++ b ++ q)) 65536 ≡ true → Sound r (statements es) → Clear (k .A) (k .B) → Clear (k .B) (k .A)
-    → Swapped r (p ++ b ++ a ++ q) (shift (length (k .P)) (length (k .A)) (length (k .B))) (statements es)
+    → Swapped r (p ++ b ++ a ++ q) (shift (length (k .P)) (length (k .A)) (length (k .B))) (shift (length (k .P)) (length (k .B)) (length (k .A))) (statements es)
 swapped r p a b q es k fits sound cab cba =
     let len : length (p ++ b ++ a ++ q) ≡ length (p ++ a ++ b ++ q) = omega (arith, length-append (p ++ b ++ a) q, length-append (p ++ b) a, length-append p b, length-append (p ++ a ++ b) q, length-append (p ++ a) b, length-append p a) in
     let new : (x : List Entry) × (read r (p ++ b ++ a ++ q) ≡ accepted x) × (statements x ≡ k .Q ++ (k .A ++ (k .B ++ k .P))) =
@@ -227,6 +229,7 @@ swapped r p a b q es k fits sound cab cba =
       reads = new .1;
       reals = ap realsUsed (new .2) ∙ omega (arith, used-append (k .Q) (k .A ++ (k .B ++ k .P)), used-append (k .A) (k .B ++ k .P), used-append (k .B) (k .P), used-append (k .Q) (k .B ++ (k .A ++ k .P)), used-append (k .B) (k .A ++ k .P), used-append (k .A) (k .P)) ∙ ap realsUsed (sym (k .all));
       renamed = subst₂ (Renamed (shift (length (k .P)) (length (k .A)) (length (k .B)))) (sym (k .all)) (sym (new .2)) (renamed-swap (k .P) (k .A) (k .B) (k .Q) cab cba);
+      back = subst₂ (Renamed (shift (length (k .P)) (length (k .B)) (length (k .A)))) (sym (new .2)) (sym (k .all)) (renamed-swap (k .P) (k .B) (k .A) (k .Q) cba cab);
     }
 
 pub exchange : (r : Settings) (p a b q : Bytes) (es : List Entry)
@@ -235,9 +238,9 @@ pub exchange : (r : Settings) (p a b q : Bytes) (es : List Entry)
     → Block es (p ++ a) b
     → Clear (inBlock (length p) (length (p ++ a)) es) (inBlock (length (p ++ a)) (length (p ++ a ++ b)) es)
     → Clear (inBlock (length (p ++ a)) (length (p ++ a ++ b)) es) (inBlock (length p) (length (p ++ a)) es)
-    → Swapped r (p ++ b ++ a ++ q) (shift (length (inBlock 0 (length p) es)) (length (inBlock (length p) (length (p ++ a)) es)) (length (inBlock (length (p ++ a)) (length (p ++ a ++ b)) es))) (statements es)
+    → Swapped r (p ++ b ++ a ++ q) (shift (length (inBlock 0 (length p) es)) (length (inBlock (length p) (length (p ++ a)) es)) (length (inBlock (length (p ++ a)) (length (p ++ a ++ b)) es))) (shift (length (inBlock 0 (length p) es)) (length (inBlock (length (p ++ a)) (length (p ++ a ++ b)) es)) (length (inBlock (length p) (length (p ++ a)) es))) (statements es)
 exchange r p a b q es e ha hb cab cba =
     let k = parts r p a b q es e ha hb in
     let f = accept-forth r (p ++ a ++ b ++ q) es e in
-    subst₃ (λ (x y z : List Statement). Swapped r (p ++ b ++ a ++ q) (shift (length x) (length y) (length z)) (statements es)) (sym (k .inP)) (sym (k .inA)) (sym (k .inB))
+    subst₃ (λ (x y z : List Statement). Swapped r (p ++ b ++ a ++ q) (shift (length x) (length y) (length z)) (shift (length x) (length z) (length y)) (statements es)) (sym (k .inP)) (sym (k .inA)) (sym (k .inB))
     (swapped r p a b q es k (f .0) (f .2) (subst₂ Clear (k .inA) (k .inB) cab) (subst₂ Clear (k .inB) (k .inA) cba))

@@ -1,0 +1,4 @@
+-- To be believed.
+pub mod Sides
+pub mod Mixed
+pub mod Exchange

@@ -1,4 +1,5 @@
-/* Kribbelsteen: a verified reader of Radiance scene texts, two saves compared, scenes written out, ray hits and Fresnel values.
+/* Kribbelsteen: a verified reader of Radiance scene texts, mixtures resolved, two saves compared, scenes written out, ray hits and
+ * Fresnel values.
  *
  * Link with libkribbelsteen.a. The functions keep nothing between calls, allocate nothing and may be called by several threads
  * at once, each on memory of its own.
@@ -51,6 +52,13 @@ enum kribbelsteen_field {
     KRIBBELSTEEN_LINE = 10         /* the line on which the name stands, from 1 */
 };
 
+/* Numbers in a pair, and where each stands in it. The pair of primitive n begins at entry KRIBBELSTEEN_PAIR * (n - 1). */
+#define KRIBBELSTEEN_PAIR 2
+enum kribbelsteen_pair_field {
+    KRIBBELSTEEN_FOREGROUND = 0,   /* the primitive that a mixfunc's first string leads to, 0 for `void` */
+    KRIBBELSTEEN_BACKGROUND = 1    /* and its second string */
+};
+
 /* Why something is refused. */
 enum kribbelsteen_reason {
     KRIBBELSTEEN_ACCEPTED = 0,
@@ -71,8 +79,11 @@ enum kribbelsteen_reason {
     KRIBBELSTEEN_NUMERAL_RANGE = 15,    /* coefficient or power too large (numeral) */
     KRIBBELSTEEN_HOUSE_RULE = 16,       /* breaks a house rule (the real that completes the breach) */
     KRIBBELSTEEN_INDEX_TOO_SMALL = 24,  /* kribbelsteen_read_indexed: the index has under 2,048 entries (0) */
+    KRIBBELSTEEN_SIDE_NOT_DEFINED = 25, /* foreground or background of a mixfunc not defined anywhere (the first such word) */
+    KRIBBELSTEEN_LOOP = 26,             /* modifiers and sides lead in a loop (name of the lowest primitive on any loop) */
+    KRIBBELSTEEN_PAIRS_TOO_SMALL = 27,  /* kribbelsteen_read and _read_indexed: under two pair entries per record of room (0) */
     KRIBBELSTEEN_RETIRED_TYPE = 28,     /* antimatter, in the new reading (type) */
-    /* questions to a table: kribbelsteen_name, kribbelsteen_finish and kribbelsteen_polygon_in_table */
+    /* questions to a table: kribbelsteen_name, kribbelsteen_finish, kribbelsteen_shown and kribbelsteen_polygon_in_table */
     KRIBBELSTEEN_NO_SUCH_PRIMITIVE = 17,
     KRIBBELSTEEN_BAD_TABLE = 18,
     KRIBBELSTEEN_ALLOWANCE = 19,
@@ -81,7 +92,7 @@ enum kribbelsteen_reason {
     KRIBBELSTEEN_OUT_OF_RANGE = 21,
     /* kribbelsteen_write */
     KRIBBELSTEEN_TABLES_DIFFER = 22,    /* the tables are not those of the text (0) */
-    KRIBBELSTEEN_OUTPUT_TOO_SMALL = 23  /* the output is too small for the tidy text (0) */
+    KRIBBELSTEEN_OUTPUT_TOO_SMALL = 23  /* the output is too small for the tidy text (0); kribbelsteen_shown: the list is too short */
 };
 
 /* Which of two saves. */
@@ -94,37 +105,43 @@ enum kribbelsteen_state { KRIBBELSTEEN_ONLY_LEFT = 1, KRIBBELSTEEN_ONLY_RIGHT = 
 #define KRIBBELSTEEN_MISS 1
 #define KRIBBELSTEEN_TOTAL_REFLECTION 1
 
-/* Reads a scene text, in a mode, into two tables. Take this call where no more memory is to be lent, else
+/* Reads a scene text, in a mode, into three tables. Take this call where no more memory is to be lent, else
  * kribbelsteen_read_indexed.
  *
- * There is room for the lesser of 1,024 and records_len / 11 records, and for the lesser of 4,096 and reals_len reals.
- * Returns 0 if the scene is accepted, else the reason, 1 to 16 or 28; the earliest place decides, and at one place the lowest
- * number.
+ * There is room for the lesser of 1,024 and records_len / 11 records, and for the lesser of 4,096 and reals_len reals. The pairs are
+ * to have two entries for each record of room.
+ * A mixfunc's first two strings name its foreground and its background: each leads to the last primitive of that name in the whole
+ * text, surfaces left out, also below the mixfunc, and `void` to 0. An alias of a mixfunc has the same pair, and all other primitives
+ * have 0 and 0. There is a loop where a primitive leads back to itself over modifiers and sides. It is looked for from each mixture, so
+ * that the time of mixtures in a chain grows with the square of their number; and such a chain takes up to about 190 KB of stack.
+ * Returns 0 if the scene is accepted, else the reason, 1 to 16 or 25 to 28: 1 before all others, then 27; then, but for 25 and 26, the
+ * earliest place decides, and at one place the lowest number; 25 only where there is none of these, and 26 only where there is no 25.
  * answer: place of the refusal, number of primitives, number of reals. An accepted scene has place 0, a refused one both
  * numbers 0.
- * Writes both tables whole, whatever they held: after acceptance all entries beyond those used are 0, and after a refusal all
+ * Writes all three tables whole, whatever they held: after acceptance all entries beyond those used are 0, and after a refusal all
  * entries are 0. The text is not written. */
 uint32_t kribbelsteen_read(uint32_t mode, const uint8_t *text, size_t text_len, uint32_t *records, size_t records_len,
-                           double *reals, size_t reals_len, size_t answer[3]);
+                           double *reals, size_t reals_len, uint32_t *pairs, size_t pairs_len, size_t answer[3]);
 
 /* Reads a scene text as kribbelsteen_read does, with a lent index of names. Take this call wherever 8 KiB can be lent for the index:
  * it is as fast up to about a hundred primitives and faster beyond, as with usual names its time does not grow with the square of
  * their number.
  *
  * An index of KRIBBELSTEEN_INDEX entries is enough, and no more of a longer one are used. With as many, reason, place, both numbers
- * and both tables are those of kribbelsteen_read, for every text. A name's hash starts at 0 and with each byte becomes 31 times itself
- * plus the byte, modulo 2,048. A search goes from that entry on, and from the last of the 2,048 to the first, until an entry is 0 or
+ * and all three tables are those of kribbelsteen_read, for every text. A name's hash starts at 0 and with each byte becomes 31 times
+ * itself plus the byte, modulo 2,048. A search goes from that entry on, and from the last of the 2,048 to the first, until an entry is 0 or
  * holds the number of a primitive of that name. There is one for each modifier but `void`, one for each alias target, and one for each
- * primitive that is no surface, whose number is written where it ends. Names made to collide cost more looks, so that the
- * call may take longer than kribbelsteen_read, but never change the answer.
- * Returns 0 if the scene is accepted, else the reason, 1 to 16, 24 or 28: 24 after 1 and before all others, else as
+ * primitive that is no surface, whose number is written where it ends. The searches for sides of mixtures, when all is read, are not
+ * counted. Names made to collide cost more looks, so that the call may take longer than kribbelsteen_read, but never change the answer.
+ * Returns 0 if the scene is accepted, else the reason, 1 to 16 or 24 to 28: 24 after 1 and before all others, else as
  * kribbelsteen_read does.
  * answer: place of the refusal, number of primitives, number of reals, and how many entries of the index were looked at, the last of
  * each search included. An accepted scene has place 0, a refused one all three numbers 0.
- * Writes all three tables whole, whatever they held: after acceptance all entries of the index from KRIBBELSTEEN_INDEX on are 0, and
+ * Writes all four tables whole, whatever they held: after acceptance all entries of the index from KRIBBELSTEEN_INDEX on are 0, and
  * after a refusal all entries of all tables are 0, whatever the lengths. The text is not written. */
 uint32_t kribbelsteen_read_indexed(uint32_t mode, const uint8_t *text, size_t text_len, uint32_t *records, size_t records_len,
-                                   double *reals, size_t reals_len, uint32_t *index, size_t index_len, size_t answer[4]);
+                                   double *reals, size_t reals_len, uint32_t *pairs, size_t pairs_len, uint32_t *index,
+                                   size_t index_len, size_t answer[4]);
 
 /* The name of a primitive, in a table of `count` records that may hold anything.
  *
@@ -145,6 +162,20 @@ uint32_t kribbelsteen_name(const uint8_t *text, size_t text_len, const uint32_t 
 uint32_t kribbelsteen_finish(const uint32_t *records, size_t records_len, size_t count, size_t number, size_t allowance,
                              size_t answer[2]);
 
+/* Every material that a primitive may show, in tables of `count` records and pairs that may hold anything: those that modifiers and both
+ * sides of mixtures lead to. The way stops at each material that it comes to, and goes on from a mixfunc over both sides and the
+ * modifier. The primitive itself is not listed, whatever its type. A list of `count` entries is enough. Each call looks for loops as a
+ * reading does, and takes as much stack.
+ *
+ * Returns 0, or refuses: 18 if count is over 1,024 or more than either table holds, then 17 if number is 0 or above count; then 18
+ * if any primitive up to count has a type outside 1 to 25, a modifier that is not below it, a side above count, a side at all where it
+ * is no mixfunc, or a link to a surface, or if there is a loop; then 23 if there are more materials than the list has entries.
+ * answer: how many materials are listed; 0 on a refusal.
+ * Writes the list whole, whatever it held: the numbers of the materials, each once, the smallest first, and 0 behind them; all 0 on a
+ * refusal. The tables are not written. */
+uint32_t kribbelsteen_shown(const uint32_t *records, size_t records_len, const uint32_t *pairs, size_t pairs_len, size_t count,
+                            size_t number, uint32_t *list, size_t list_len, size_t answer[1]);
+
 /* The word at or after a place. Blanks are the bytes 9 to 13 and 32, and a word is a longest run of other bytes from there on;
  * comments are not known here. From inside a word the rest of it is found. Go on from place + length.
  *
@@ -152,9 +183,9 @@ uint32_t kribbelsteen_finish(const uint32_t *records, size_t records_len, size_t
  * There is no refusal, and nothing else is written. */
 void kribbelsteen_next_word(const uint8_t *text, size_t text_len, size_t at, size_t answer[2]);
 
-/* Reads two scene texts, both in one mode, each into two tables of its own, as kribbelsteen_read does.
+/* Reads two scene texts, both in one mode, each into two tables of its own, as kribbelsteen_read does with pairs enough.
  *
- * Returns 0 if both are accepted, else the reason, 1 to 16 or 28, of the one that is refused: the left one if both are.
+ * Returns 0 if both are accepted, else the reason, 1 to 16, 25, 26 or 28, of the one that is refused: the left one if both are.
  * answer: which save is refused and the place there; then primitives and reals of the left save, and of the right one. Accepted
  * saves have side and place 0, refused ones all four numbers 0.
  * Writes all four tables whole, whatever they held: after a refusal of either save all entries of all of them are 0. */
@@ -225,9 +256,9 @@ uint32_t kribbelsteen_next_ordered(const uint8_t *left, size_t left_len, const u
  * enough.
  *
  * The tables may hold anything: they are compared with a fresh reading of the text, in the mode, into tables of the same lengths,
- * which takes about 79 KB of stack. The used parts of longer tables will do.
- * Returns 0, or refuses: 1 to 16 or 28 as that reading does, then 22 if the tables differ from its tables in any entry or bit, then 23 if
- * the text is longer than the output.
+ * which takes up to about 285 KB of stack. The used parts of longer tables will do.
+ * Returns 0, or refuses: 1 to 16, 25, 26 or 28 as that reading does, then 22 if the tables differ from its tables in any entry or
+ * bit, then 23 if the text is longer than the output.
  * answer: place of the refusal, bytes of the tidy text. A written scene has place 0, a refused one length 0.
  * Writes the output whole: bytes behind the text are 0, and on a refusal all are. The tables are not written. */
 uint32_t kribbelsteen_write(uint32_t mode, const uint8_t *text, size_t text_len, const uint32_t *records, size_t records_len,

@@ -1,10 +1,10 @@
 #!/usr/bin/env python3
-"""Whether the definitions of the crates scene and index and the reader of tools/scene.py agree, on texts made from a seed.
+"""Whether the definitions of the crates scene, index and sides and the reader of tools/scene.py agree, on texts made from a seed.
 
     tools/check-definitions.py [COUNT [SEED]]
 
 Each text becomes a row that the prover computes: the answer's four numbers, the report of entries looked at, the records, the bits
-of the reals, and each used entry of the index with its place. The rows are written to a copy of the repository in a temporary folder, since computing them takes longer than the gate should. Needs rt."""
+of the reals, each used entry of the index with its place, and the pairs. The rows are written to a copy of the repository in a temporary folder, since computing them takes longer than the gate should. Needs rt."""
 import collections
 import pathlib
 import re
@@ -26,7 +26,8 @@ def expected(archive, text, records, reals):
         return [table, doubles, 0, 0, 0]
     index, looked = scene.index_of(text, table)
     used = [n for entry, number in enumerate(index) if number for n in (entry, number)]
-    return [0, 0, len(table), len(doubles), looked] + [n for r in table for n in r] + doubles + used
+    pairs = [side for pair in scene.pairs_of(text, table) for side in pair]
+    return [0, 0, len(table), len(doubles), looked] + [n for r in table for n in r] + doubles + used + pairs
 
 
 def numbers(ns):
@@ -64,8 +65,14 @@ with tempfile.TemporaryDirectory() as folder:
         "use Rattle.scene.specs.Record.{answer, flat, fields, newlines}",
         "use Rattle.index.specs.Index.{hashFrom, indexBy, passed, seek, stops}",
         "use Rattle.index.specs.Report.{allLooked, givesNo, indexImage, nameNo, report}",
+        "use Rattle.graph.specs.Answers.{lowest, lowestLoop}",
+        "use Rattle.graph.specs.Graph.{goesFrom, link}",
+        "use Rattle.graph.specs.Paths.{via}",
+        "use Rattle.sides.specs.Read.{firstUnknown, isKnown, read}",
+        "use Rattle.sides.specs.Sides.{fromNumber, pairs, pairsFrom}",
     ]
     opens = " flat newlines toBits allLooked givesNo nameNo indexBy hashFrom passed seek stops used"
+    opens += " read firstUnknown isKnown lowestLoop lowest via link goesFrom fromNumber pairs pairsFrom"
     everything = "everything : ℕ\nunfolding " + names[0] + " " + names[1].replace("readings ", "") + opens + "\neverything = 0\n"
     used = (
         "used : ℕ → List ℕ → List ℕ\n"
@@ -74,11 +81,11 @@ with tempfile.TemporaryDirectory() as folder:
     )
     facts = (
         "facts : Settings → Bytes → List ℕ\n"
-        "facts r t = let x = read r t in let a = answer x in a .reason ∷ a .place ∷ a .primitives ∷ a .reals ∷ report x ∷ flat t (records (entries x)) ++ map (toBits binary64) (realTable (entries x)) ++ used 0 (indexImage 2048 x)\n"
+        "facts r t = let x = read r t in let a = answer x in a .reason ∷ a .place ∷ a .primitives ∷ a .reals ∷ report x ∷ flat t (records (entries x)) ++ map (toBits binary64) (realTable (entries x)) ++ used 0 (indexImage 2048 x) ++ pairs (statements (entries x))\n"
     )
     (crate / "specs" / "Rows.antt").write_text("\n".join(head) + "\n\n" + used + "\n" + everything + "\n" + facts + "\n" + "\n".join(rows))
     with (copy / "crates.txt").open("a") as f:
-        f.write("rows: laws lexer numeral_parts numeral scene index\n")
+        f.write("rows: laws lexer numeral_parts numeral scene index graph sides\n")
     ran = subprocess.run(["rt", "check", "rows"], cwd=copy, capture_output=True, text=True)
 out = ran.stdout + ran.stderr
 differ = sorted({line.split("`")[1] for line in out.split("\n") if ": error: `row" in line})

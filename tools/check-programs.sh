@@ -25,34 +25,39 @@ expect() {
 
 listing=$("$bin/list" <$scene)$'\n'
 finishes=$("$bin/finishes" <$scene)$'\n'
+shows=$("$bin/shows" <$scene)$'\n'
 tidy=$("$bin/tidy" <$scene)$'\n'
 head -c 65536 /dev/zero | tr '\0' '#' >"$scratch/fits"
 head -c 65537 /dev/zero | tr '\0' '#' >"$scratch/long"
 printf '\n# note\nwall' >"$scratch/refused"
+printf 'void light bulb 0 0 3 1 1 1\nbulb mixfunc glare 4 glare void v f.cal 0 0\n' >"$scratch/loop"
 full='standard output: No space left on device'$'\n'
 
 # One file is answered as standard input is, and several each under a heading.
 expect '$bin/list $scene' "$listing" ''
 expect '$bin/finishes $scene' "$finishes" ''
+expect '$bin/shows $scene' "$shows" ''
 expect '$bin/tidy $scene' "$tidy" ''
 expect '$bin/list $scene $scene' "scene=$scene"$'\n'"${listing}scene=$scene"$'\n'"$listing" ''
 expect '$bin/finishes $scene $scene' "scene=$scene"$'\n'"${finishes}scene=$scene"$'\n'"$finishes" ''
+expect '$bin/shows $scene $scene' "scene=$scene"$'\n'"${shows}scene=$scene"$'\n'"$shows" ''
 expect '$bin/tidy $scene $scene' "scene=$scene"$'\n'"${tidy}scene=$scene"$'\n'"$tidy" ''
 
 # A read that fails is no empty scene.
-for program in list finishes words numerals rays; do
+for program in list finishes shows words numerals rays; do
     expect '$bin/$program <$scratch' $'unreadable\n' ''
     expect '$bin/$program <&-' $'unreadable\n' ''
 done
 expect '$bin/tidy <$scratch' $'unreadable\n' $'unreadable\n'
 expect '$bin/tidy <&-' $'unreadable\n' $'unreadable\n'
-for program in list finishes; do
+for program in list finishes shows; do
     expect '$bin/$program samples' $'scene=samples unreadable\n' ''
     expect '$bin/$program missing' $'scene=missing unreadable\n' ''
     expect '$bin/$program ""' $'scene= unreadable\n' ''
 done
 expect '$bin/tidy missing' $'scene=missing unreadable\n' $'scene=missing unreadable\n'
 expect '$bin/list missing $scene' $'scene=missing unreadable\n'"scene=$scene"$'\n'"$listing" ''
+expect '$bin/shows missing $scene' $'scene=missing unreadable\n'"scene=$scene"$'\n'"$shows" ''
 expect '$bin/compare $scene samples' $'scene=right unreadable\n' ''
 
 # 65,536 bytes fit, and one more does not.
@@ -63,19 +68,30 @@ for program in list words numerals; do
 done
 expect '$bin/list $scratch/long' $'refused=1 place=0\n' ''
 expect '$bin/finishes <$scratch/long' $'refused=1 place=0 line=1\n' ''
+expect '$bin/shows <$scratch/fits' '' ''
+expect '$bin/shows <$scratch/long' $'refused=1 place=0 line=1\n' ''
+expect '$bin/shows $scratch/long' $'refused=1 place=0 line=1\n' ''
 expect '$bin/tidy <$scratch/long' $'refused=1 place=0 line=1\n' $'refused=1 place=0 line=1\n'
 
 # A refusal is told from a tidy text by standard error.
 expect '$bin/tidy <$scratch/refused' $'refused=7 place=8 line=3\n' $'refused=7 place=8 line=3\n'
 expect '$bin/tidy $scratch/refused' $'refused=7 place=8 line=3\n' "scene=$scratch/refused refused=7 place=8 line=3"$'\n'
 expect '$bin/finishes <$scratch/refused' $'refused=7 place=8 line=3\n' ''
+expect '$bin/shows <$scratch/refused' $'refused=7 place=8 line=3\n' ''
+for program in finishes shows; do
+    expect '$bin/$program <$scratch/loop' $'refused=26 place=41 line=2\n' ''
+    expect '$bin/$program $scene $scratch/loop | tail -n 2' "scene=$scratch/loop"$'\nrefused=26 place=41 line=2\n' ''
+done
+expect '$bin/list <$scratch/loop' $'refused=26 place=41\n' ''
+expect '$bin/tidy <$scratch/loop' $'refused=26 place=41 line=2\n' $'refused=26 place=41 line=2\n'
+expect '$bin/compare $scene $scratch/loop' $'scene=right refused=26 place=41\n' ''
 
 # A write that fails is said once, and is the last. A file that is opened may get the number of a closed standard output.
-for program in list finishes tidy words numerals; do
+for program in list finishes shows tidy words numerals; do
     expect '$bin/$program <$scene >/dev/full' '' "$full"
     expect '$bin/$program <$scene >&-' '' $'standard output: Bad file descriptor\n'
 done
-for program in list finishes tidy; do
+for program in list finishes shows tidy; do
     expect '$bin/$program $scene $scene >/dev/full' '' "$full"
     expect '$bin/$program $scene $scene >&-' '' $'standard output: Bad file descriptor\n'
     # An option that is unknown, or stands behind a file, is refused before anything is done.
@@ -105,6 +121,10 @@ old_finishes='no=4 line=7 type=polygon name=desk finish=1 finish_name=deskfront 
 no=5 line=9 type=sphere name=hatch finish=2 finish_name=opening finish_line=4 nth=1 of=1 links=1
 no=6 line=11 type=sphere name=keyhole finish=3 finish_name=slot finish_line=6 nth=1 of=1 links=1
 '
+old_shows='no=4 name=desk shows=1
+no=5 name=hatch shows=2
+no=6 name=keyhole shows=3
+'
 expect '$bin/list $old' $'refused=28 place=120\n' ''
 expect '$bin/list --archive $old' "$archive" ''
 expect '$bin/list --archive <$old' "$archive" ''
@@ -115,6 +135,11 @@ expect '$bin/finishes $old' "$retired" ''
 expect '$bin/finishes --archive $old' "$old_finishes" ''
 expect '$bin/finishes --archive <$old' "$old_finishes" ''
 expect '$bin/finishes --archive $scene' "$finishes" ''
+expect '$bin/shows $old' "$retired" ''
+expect '$bin/shows --archive $old' "$old_shows" ''
+expect '$bin/shows --archive <$old' "$old_shows" ''
+expect '$bin/shows --archive $scene' "$shows" ''
+expect '$bin/shows --archive $scene $old' "scene=$scene"$'\n'"${shows}scene=$old"$'\n'"$old_shows" ''
 expect '$bin/tidy <$old' "$retired" "$retired"
 expect '$bin/tidy --archive <$scene' "$tidy" ''
 expect '$bin/tidy --archive missing' $'scene=missing unreadable\n' $'scene=missing unreadable\n'

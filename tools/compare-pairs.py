@@ -20,7 +20,9 @@ import texts
 TOP = pathlib.Path(__file__).resolve().parent.parent
 NAMES = texts.NAMES + ["wal", "walls", "Wall", "~", "-", "0", "desk.", "deskfront2"]
 NO_FILES = ["missing", "folder"]
+MIXTURES_REFUSED = ["refused=25", "refused=26"]
 OUTCOMES = "equal,state=left,state=right,state=changed,left refused,right refused,left unreadable,right unreadable".split(",")
+OUTCOMES += MIXTURES_REFUSED
 
 
 def scene_of(rng, archive, most):
@@ -35,7 +37,17 @@ def scene_of(rng, archive, most):
             statements.append(words)
         except scene.Refused:
             del reader.reals[used:]
+    settle(archive, statements)
     return statements
+
+
+def settle(archive, statements):
+    """Makes sides void, one mixture after the other, until none is undefined or closes a loop."""
+    for words in [words for words in statements if words[1] == "mixfunc"]:
+        reason, _ = scene.read(archive, "\n".join(" ".join(words) for words in statements).encode())
+        if reason not in (25, 26):
+            break
+        words[4:6] = ["void", "void"]
 
 
 def spelled(rng, statements):
@@ -121,7 +133,7 @@ def renamed(rng, statements):
 def renamed_throughout(rng, statements):
     old, new = rng.choice(statements)[2], rng.choice(NAMES)
     for words in statements:
-        for at in [0, 2] + [3] * (words[1] == "alias"):
+        for at in [0, 2] + [3] * (words[1] == "alias") + [4, 5] * (words[1] == "mixfunc"):
             words[at] = new if words[at] == old else words[at]
 
 
@@ -220,7 +232,7 @@ def outcomes(answer):
     """What an answer says, by kind."""
     if answer.startswith("scene="):
         side, what = answer[len("scene=") :].split()[:2]
-        return [side + " " + what.split("=")[0]]
+        return [side + " " + what.split("=")[0]] + [what] * (what in MIXTURES_REFUSED)
     return [line.split()[-1] for line in answer.splitlines()] or ["equal"]
 
 

@@ -1,8 +1,8 @@
 #!/usr/bin/env python3
-"""Whether the programs list and finishes print what tools/scene.py does, and tidy what tools/tidy.py does, on texts made from a
-seed and on those at the limits, each on standard input and half of them in the archive reading; whether a tidy text is its own, with
-the same listing; whether a text that the new reading accepts has the same listing in the archive one, below its line; and whether
-tidy alone says its refusals on standard error too.
+"""Whether the programs list, finishes and shows print what tools/scene.py does, and tidy what tools/tidy.py does, on texts made from
+a seed and on those at the limits, each on standard input and half of them in the archive reading; whether a tidy text is its own, with
+the same listing, and shows the same; whether a text that the new reading accepts has the same listing in the archive one, below its
+line; and whether tidy alone says its refusals on standard error too.
 
     tools/compare-programs.py [COUNT [SEED [FOLDER]]]
 
@@ -18,7 +18,7 @@ import texts
 import tidy
 
 TOP = pathlib.Path(__file__).resolve().parent.parent
-REASONS = [0, *range(1, 11), *range(12, 17), 28]  # 0 is accepted, and 11 is given no more
+REASONS = [0, *range(1, 11), *range(12, 17), 25, 26, 28]  # 0 is accepted, and 11 is given no more
 
 
 def every_text(seed, count):
@@ -48,9 +48,11 @@ for archive, text in every_text(seed, count):
     right = scene.listing(archive, text).encode()
     reasons[reason_of(right)] += 1
     neat = tidy.tidied(archive, text)
-    asked = [("list", archive, text, right), ("finishes", archive, text, scene.finishes(archive, text).encode()), ("tidy", archive, text, neat)]
+    shows = scene.shows(archive, text).encode()
+    asked = [("list", archive, text, right), ("shows", archive, text, shows), ("tidy", archive, text, neat)]
+    asked += [("finishes", archive, text, scene.finishes(archive, text).encode())]
     if not neat.startswith(b"refused="):
-        asked += [("list", archive, neat, right), ("tidy", archive, neat, neat)]
+        asked += [("list", archive, neat, right), ("shows", archive, neat, shows), ("tidy", archive, neat, neat)]
     if not archive and reason_of(right) == 0:
         asked += [("list", True, text, b"archive=1\n" + right)]
     for program, archive, text, right in asked:

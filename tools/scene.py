@@ -1,10 +1,12 @@
 #!/usr/bin/env python3
 """A reader of scene texts, written from the documents alone: what the definitions and the program are compared with.
 
-    tools/scene.py [--archive] [finishes] < TEXT        the listing of a text or its finishes, or its refusal
+    tools/scene.py [--archive] [finishes|shows] < TEXT        the listing of a text, its finishes or what its surfaces may show, or
+                                                             its refusal
 
 read(archive, text, record_room, real_room) gives (reason, place) for a refused text, else (records, reals): lists of eleven
-numbers, and the bits of the doubles. Only the archive reading accepts antimatter."""
+numbers, and the bits of the doubles. Only the archive reading accepts antimatter. pairs_of(text, records) gives the sides of the
+mixtures of an accepted text."""
 import sys
 
 import numerals
@@ -20,6 +22,7 @@ EXACT_REALS = dict(
 )
 BLANKS = bytes([9, 10, 11, 12, 13, 32])
 LAST_SURFACE = 9
+MIXFUNC = len(TYPES)
 
 
 class Refused(Exception):
@@ -172,6 +175,15 @@ class Reader:
             self.reals.append(bits)
         return [first, strings, index if reals else 0, reals]
 
+    def mixtures(self):
+        """Refuses a side that is not defined anywhere, and then a loop, when all is read."""
+        pairs = pairs_of(self.text, self.records)
+        if any(record[0] == MIXFUNC for record in self.records):  # modifiers alone lead to no loop
+            reached = closure(links(self.records, pairs), range(1, len(self.records) + 1))
+            for number, record in enumerate(self.records, 1):
+                if reached[number] >> number & 1:
+                    raise Refused(26, record[3])
+
     def read(self):
         if len(self.text) > 65536:
             return (1, 0)
@@ -179,6 +191,7 @@ class Reader:
             while True:
                 self.skip()
                 if self.at == len(self.text):
+                    self.mixtures()
                     return self.records, self.reals
                 mark = self.text[self.at]
                 if mark == ord("#"):
@@ -190,6 +203,52 @@ class Reader:
                     self.statement()
         except Refused as refused:
             return refused.answer
+
+
+def pairs_of(text, records):
+    """Foreground and background of each primitive, (0, 0) where it is no mixture; refuses the first name that is not defined."""
+    last = {text[r[3] : r[3] + r[4]]: number for number, r in enumerate(records, 1) if r[0] > LAST_SURFACE}
+    last[b"void"] = 0
+    pairs = []
+    for r in records:
+        if r[0] != MIXFUNC:
+            pairs.append((0, 0))
+        elif r[2]:
+            pairs.append(pairs[r[2] - 1])
+        else:
+            foreground, background = text[r[5] :].split(maxsplit=2)[:2]
+            places = r[5], text.index(background, r[5] + len(foreground))
+            for name, place in zip((foreground, background), places):
+                if name not in last:
+                    raise Refused(25, place)
+            pairs.append((last[foreground], last[background]))
+    return pairs
+
+
+def links(records, pairs):
+    """Where each number's modifier and sides lead, as the bits of one number; number 0 leads nowhere."""
+    return [0] + [(1 << r[1] | 1 << foreground | 1 << background) & ~1 for r, (foreground, background) in zip(records, pairs)]
+
+
+def closure(links, passable):
+    """All that each number leads to, with only passable numbers in between: Warshall's way."""
+    reached = list(links)
+    for between in passable:
+        beyond = reached[between]
+        if beyond:
+            reached = [bits | beyond if bits >> between & 1 else bits for bits in reached]
+    return reached
+
+
+def is_material(record):
+    return LAST_SURFACE < record[0] < MIXFUNC
+
+
+def shown(records, pairs):
+    """The materials that each primitive may show, smallest number first."""
+    numbers = range(1, len(records) + 1)
+    reached = closure(links(records, pairs), [n for n in numbers if not is_material(records[n - 1])])
+    return [[n for n in numbers if bits >> n & 1 and is_material(records[n - 1])] for bits in reached[1:]]
 
 
 def read(archive, text, record_room=1024, real_room=4096):
@@ -265,6 +324,18 @@ def finishes(archive, text):
     return "".join(lines)
 
 
+def shows(archive, text):
+    records, _ = read(archive, text)
+    if isinstance(records, int):
+        return refusal(archive, text)
+    lines = []
+    for number, (r, materials) in enumerate(zip(records, shown(records, pairs_of(text, records))), 1):
+        if r[0] <= LAST_SURFACE:
+            name = text[r[3] : r[3] + r[4]].decode()
+            lines.append("no=%d name=%s shows=%s\n" % (number, name, ",".join(map(str, materials))))
+    return "".join(lines)
+
+
 if __name__ == "__main__":
-    answer = finishes if "finishes" in sys.argv[1:] else listing
+    answer = finishes if "finishes" in sys.argv[1:] else shows if "shows" in sys.argv[1:] else listing
     sys.stdout.write(answer(sys.argv[1:2] == ["--archive"], sys.stdin.buffer.read()))

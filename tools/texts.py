@@ -1,7 +1,7 @@
 #!/usr/bin/env python3
 """Scene texts to try a reader on, valid and damaged, made from a seed: texts(seed, count, most) yields
-(archive, text, record_room, real_room), half of them for the archive reading, with at most so many statements each. Every reason
-for refusing turns up among them, 6 and 13 by the smaller rooms, but not 1.
+(archive, text, record_room, real_room), half of them for the archive reading, with at most so many statements each, a quarter of them
+mostly mixtures. Every reason for refusing turns up among them, 6 and 13 by the smaller rooms, but not 1.
 
     tools/texts.py NAME      writes a text at or just past a limit of document 01: see limits; or a stored one of two saves that
                              have no name in common, left or right"""
@@ -29,6 +29,8 @@ def statement(rng, archive, names):
     reals = rng.choice([n for n in range(13) if scene.reals_allowed(kind, n)])
     words = [modifier, kind, rng.choice(NAMES)]
     words += [str(strings).zfill(rng.choice([1, 1, 2, 5]))] + [rng.choice(NAMES + ["#s", "!s"]) for _ in range(strings)]
+    if kind == "mixfunc" and rng.random() < 0.95:
+        words[4:6] = rng.choices(["void"] + names, k=2)
     words += [rng.choice(["0", "0", "00"]), str(reals)]
     values = []
     for _ in range(reals):
@@ -62,16 +64,67 @@ def spoil(rng, words):
         del words[at]
 
 
-def text(rng, archive, most):
-    out, names = b"", []
+def scene_of_any(rng, archive, most):
+    """Up to so many statements of all types, some of them spoiled. Now and then a mixture has a side that is defined below it, which may
+    close a loop."""
+    statements, names = [], []
     for _ in range(rng.randrange(most + 1)):
-        if rng.random() < 0.2:
-            out += rng.choice([b"# note \xff!\n", b"\n", b"  \t\n", b"#\n", b" # trailing\r\n"])
         words = statement(rng, archive, names)
         if rng.random() < 0.12:
             spoil(rng, words)
         elif words[1] not in SURFACES or rng.random() < 0.1:
             names.append(words[2])
+        statements.append(words)
+    for words in statements:
+        if words[1:2] == ["mixfunc"] and len(words) > 5 and names and rng.random() < 0.2:
+            words[rng.choice([4, 5])] = rng.choice(names)
+    return statements
+
+
+def scene_of_mixtures(rng, most):
+    """Up to so many statements, most of them mixtures and aliases of mixtures, with sides above and below: each leads only to what has
+    a lower rank, so there is no loop, but for a link that now and then is put in against the ranks."""
+    surfaces = rng.randrange(min(most, 2) + 1)
+    count = rng.randrange(most - surfaces + 1)
+    ranks = rng.choice([list(range(count)), list(range(count))[::-1], rng.sample(range(count), count)])
+    kinds = rng.choices(["mixfunc", "alias", "light"], rng.choice([[8, 3, 3], [5, 1, 8]]), k=count)
+    near = rng.choice([2, count])  # how far below in rank a side may be: chains, or anything
+
+    def below(k, among):
+        found = [n for n in among if ranks[n] < ranks[k] and ranks[k] - ranks[n] <= near]
+        return rng.choice(found) if found and rng.random() < 0.9 else None
+
+    def name(k):
+        return "void" if k is None else "m%d" % k
+
+    statements = []
+    for k, kind in zip(range(count), kinds):
+        modifier = name(below(k, range(k)) if rng.random() < 0.3 else None)
+        target = below(k, range(k))
+        if kind == "alias" and target is not None:
+            statements.append([modifier, kind, name(k), name(target)])
+        elif kind == "mixfunc":
+            sides = [name(below(k, range(count))) for _ in range(2)]
+            statements.append([modifier, kind, name(k), "4", *sides, "v", "f.cal", "0", "0"])
+        else:
+            statements.append([modifier, "light", name(k), *"0 0 3 1 1 1".split()])
+    mixtures = [words for words in statements if words[1] == "mixfunc"]
+    if mixtures and rng.random() < 0.3:
+        rng.choice(mixtures)[rng.choice([4, 5])] = name(rng.randrange(count))
+    if mixtures and rng.random() < 0.05:
+        rng.choice(mixtures)[rng.choice([4, 5])] = "nowhere"
+    for k in range(surfaces):
+        modifier = name(rng.choice([rng.randrange(count), ranks.index(count - 1)]) if count else None)
+        statements.append([modifier, "sphere", rng.choice(["s%d" % k, "m%d" % k]), *"0 0 4 0 0 0 1".split()])
+    return statements
+
+
+def text(rng, archive, most):
+    out = b""
+    statements = scene_of_mixtures(rng, most) if rng.random() < 0.25 else scene_of_any(rng, archive, most)
+    for words in statements:
+        if rng.random() < 0.2:
+            out += rng.choice([b"# note \xff!\n", b"\n", b"  \t\n", b"#\n", b" # trailing\r\n"])
         blanks = [b" "] * 6 + [b"\n", b"\t", b"  ", b"\r\n", b"\x0b", b"\x0c"]
         out += b"".join(w.encode("latin-1") + rng.choice(blanks) for w in words)
         out += rng.choice([b"\n", b"\n", b" ", b""])
@@ -101,7 +154,7 @@ def sized(primitives=1, reals=0, word=1, size=0):
     """An accepted text but for its limits: so many primitives and reals, a name of so many bytes, and so many bytes in all, which a
     comment makes up."""
     name = b"n" * word
-    out = b"void mixfunc " + name + b" 4 a b c d 0 %d" % reals + b" 1" * reals + b"\n"
+    out = b"void mixfunc " + name + b" 4 void void c d 0 %d" % reals + b" 1" * reals + b"\n"
     if primitives > 1:
         out += b"void alias a " + name + b"\n"
     out += b"a alias a a\n" * (primitives - 2)
@@ -111,8 +164,8 @@ def sized(primitives=1, reals=0, word=1, size=0):
 def packed(size):
     """An accepted text of so many bytes, at least 100, that spends one blank between two words and has none at its end: its tidy
     text is one byte longer."""
-    count = -(-size // 65)
-    front, back = b"void mixfunc n %d" % count, b" 0 0"
+    count = max(2, -(-size // 64))
+    front, back = b"void mixfunc n %d void void" % (count + 2), b" 0 0"
     least, longer = divmod(size - len(front) - len(back) - count, count)
     words = [b"s" * (least + (k < longer)) for k in range(count)]
     return b" ".join([front, *words]) + back
@@ -120,7 +173,7 @@ def packed(size):
 
 def named(first, count):
     """An accepted text of so many primitives, each with a name of its own that begins with these bytes."""
-    return b"".join(b"void mixfunc %s%d 4 a b c d 0 0\n" % (first, n) for n in range(count))
+    return b"".join(b"void mixfunc %s%d 4 void void c d 0 0\n" % (first, n) for n in range(count))
 
 
 def limits():

@@ -2,7 +2,7 @@
 //! key by key with no table, on the same scenes in one run. Each time is the median of several rounds.
 
 use kribbelsteen::raw::{self, Ordered};
-use kribbelsteen::{Mode, MOST_PRIMITIVES, RECORD};
+use kribbelsteen::{Mode, MOST_PRIMITIVES, PAIR, RECORD};
 use std::hint::black_box;
 use std::time::Instant;
 
@@ -30,7 +30,9 @@ impl Read {
     fn new(text: String) -> Self {
         let text = text.into_bytes();
         let (mut records, mut reals) = (vec![0; RECORD * MOST_PRIMITIVES], vec![0.0; 3 * MOST_PRIMITIVES]);
-        let (reason, [_, primitives, used]) = raw::read(Mode::New.number(), &text, &mut records, &mut reals);
+        let mut pairs = vec![0; PAIR * MOST_PRIMITIVES];
+        let (reason, [_, primitives, used]) =
+            raw::read(Mode::New.number(), &text, &mut records, &mut reals, &mut pairs);
         assert_eq!(reason, 0, "the save is accepted");
         records.truncate(RECORD * primitives);
         reals.truncate(used);

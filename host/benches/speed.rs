@@ -2,12 +2,12 @@
 //! and a bare scan of the bytes, on the same texts in one run.
 //!
 //! Each time is the median of several rounds; in each round the five take turns, so that all meet the same state of the machine.
-//! All readers clear the whole of their tables first, the index too.
+//! All readers clear the whole of their tables first, the index too. The bench `mixtures` has the scenes that are worst for mixtures.
 
 #[path = "../reference/mod.rs"]
 mod reference;
 
-use kribbelsteen::{raw, Mode, INDEX, MOST_BYTES, MOST_PRIMITIVES, MOST_REALS, RECORD};
+use kribbelsteen::{raw, Mode, INDEX, MOST_BYTES, MOST_PRIMITIVES, MOST_REALS, PAIR, RECORD};
 use reference::{scene, tuned};
 use std::hint::black_box;
 use std::time::{Duration, Instant};
@@ -107,33 +107,42 @@ fn scan_bytes(text: &[u8]) {
 struct Tables {
     records: Vec<u32>,
     reals: Vec<f64>,
+    pairs: Vec<u32>,
     index: Vec<u32>,
 }
 
 impl Tables {
     fn new() -> Self {
-        Tables { records: vec![9; RECORD * MOST_PRIMITIVES], reals: vec![9.0; MOST_REALS], index: vec![9; INDEX] }
+        Tables {
+            records: vec![9; RECORD * MOST_PRIMITIVES],
+            reals: vec![9.0; MOST_REALS],
+            pairs: vec![9; PAIR * MOST_PRIMITIVES],
+            index: vec![9; INDEX],
+        }
     }
 
     fn read_plainly(&mut self, text: &[u8]) {
-        black_box(raw::read(Mode::New.number(), black_box(text), &mut self.records, &mut self.reals));
+        let Tables { records, reals, pairs, .. } = self;
+        black_box(raw::read(Mode::New.number(), black_box(text), records, reals, pairs));
     }
 
     fn read_indexed(&mut self, text: &[u8]) {
-        let Tables { records, reals, index } = self;
-        black_box(raw::read_indexed(Mode::New.number(), black_box(text), records, reals, index));
+        let Tables { records, reals, pairs, index } = self;
+        black_box(raw::read_indexed(Mode::New.number(), black_box(text), records, reals, pairs, index));
     }
 
     fn read_by_reference(&mut self, text: &[u8]) {
-        let _ = black_box(scene::read(false, black_box(text), &mut self.records, &mut self.reals));
+        let Tables { records, reals, pairs, .. } = self;
+        let _ = black_box(scene::read(false, black_box(text), records, reals, pairs));
     }
 
     fn read_tuned(&mut self, text: &[u8]) {
-        let _ = black_box(tuned::read(false, black_box(text), &mut self.records, &mut self.reals));
+        let Tables { records, reals, pairs, .. } = self;
+        let _ = black_box(tuned::read(false, black_box(text), records, reals, pairs));
     }
 
     fn holds_what(&self, other: &Tables) -> bool {
-        self.records == other.records && self.reals == other.reals
+        self.records == other.records && self.reals == other.reals && self.pairs == other.pairs
     }
 }
 
@@ -186,9 +195,9 @@ fn measure(text: &[u8]) -> [f64; 5] {
 
 fn report(what: &str, text: &str) {
     let text = text.as_bytes();
-    let Tables { mut records, mut reals, mut index } = Tables::new();
+    let Tables { mut records, mut reals, mut pairs, mut index } = Tables::new();
     let (reason, [_, primitives, used, looked]) =
-        raw::read_indexed(Mode::New.number(), text, &mut records, &mut reals, &mut index);
+        raw::read_indexed(Mode::New.number(), text, &mut records, &mut reals, &mut pairs, &mut index);
     assert_eq!(reason, 0, "{what} is accepted");
     let times = measure(text);
     let [plain, indexed, usual, tuned, floor] = times.map(|seconds| seconds * 1e6);

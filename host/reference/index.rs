@@ -8,21 +8,23 @@ pub const INDEX: usize = 2_048;
 
 const INDEX_TOO_SMALL: Refused = Refused { reason: 24, place: 0 };
 
-/// Reads a scene into both tables and an index; all three are all zero after a refusal. Gives how many entries were looked at too.
+/// Reads a scene into three tables and an index; all four are all zero after a refusal. Gives how many entries were looked at too.
 pub fn read_indexed(
     archive: bool,
     text: &[u8],
     records: &mut [u32],
     reals: &mut [f64],
+    pairs: &mut [u32],
     index: &mut [u32],
 ) -> Result<(Counts, usize), Refused> {
     index.fill(0);
     if text.len() <= MOST_BYTES && index.len() < INDEX {
         records.fill(0);
         reals.fill(0.0);
+        pairs.fill(0);
         return Err(INDEX_TOO_SMALL);
     }
-    let counts = scene::read(archive, text, records, reals)?;
+    let counts = scene::read(archive, text, records, reals, pairs)?;
     let found = Index::of(text, &records[..RECORD * counts.primitives]);
     index[..INDEX].copy_from_slice(&found.entries);
     Ok((counts, found.looked))

@@ -3,6 +3,7 @@
 #![allow(dead_code)]
 
 pub mod index;
+pub mod mixtures;
 pub mod plain;
 pub mod random;
 pub mod rays;

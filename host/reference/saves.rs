@@ -17,7 +17,7 @@ pub fn read_both(
     records: &mut [Vec<u32>; 2],
     reals: &mut [Vec<f64>; 2],
 ) -> Result<[Counts; 2], (usize, Refused)> {
-    let mut read = |side: usize| scene::read(archive, texts[side], &mut records[side], &mut reals[side]);
+    let mut read = |side: usize| scene::read_without_pairs(archive, texts[side], &mut records[side], &mut reals[side]);
     let refused = match (read(LEFT), read(RIGHT)) {
         (Ok(left), Ok(right)) => return Ok([left, right]),
         (Err(refused), _) => (LEFT, refused),

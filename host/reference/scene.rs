@@ -1,6 +1,7 @@
 //! A reader of scene texts, as one would write it in Rust: names are looked up in a hash map, and `?` ends the reading at the first
-//! word that is refused. It fills the same two tables as the library, and gives the same reasons and places.
+//! word that is refused. It fills the same three tables as the library, and gives the same reasons and places.
 
+use super::mixtures::{Tables, MIXFUNC};
 use std::collections::HashMap;
 
 pub const MOST_BYTES: usize = 65_536;
@@ -9,11 +10,15 @@ pub const MOST_RECORDS: usize = 1_024;
 pub const MOST_REALS: usize = 4_096;
 /// How many numbers a record has.
 pub const RECORD: usize = 11;
+/// How many numbers a pair has.
+pub const PAIR: usize = 2;
 
-const TYPE: usize = 0;
-const MODIFIER: usize = 1;
+pub const TYPE: usize = 0;
+pub const MODIFIER: usize = 1;
+const TARGET: usize = 2;
 const NAME: usize = 3;
 const NAME_LENGTH: usize = 4;
+const STRING: usize = 5;
 const REAL: usize = 7;
 const REALS: usize = 8;
 const NEXT: usize = 9;
@@ -37,16 +42,56 @@ fn refuse<T>(reason: u32, place: usize) -> Result<T, Refused> {
     Err(Refused { reason, place })
 }
 
-/// Reads a scene into both tables, which are all zero after a refusal. Only the archive reading accepts antimatter.
-pub fn read(archive: bool, text: &[u8], records: &mut [u32], reals: &mut [f64]) -> Result<Counts, Refused> {
+/// Reads a scene into three tables, which are all zero after a refusal. Only the archive reading accepts antimatter.
+pub fn read(
+    archive: bool,
+    text: &[u8],
+    records: &mut [u32],
+    reals: &mut [f64],
+    pairs: &mut [u32],
+) -> Result<Counts, Refused> {
     records.fill(0);
     reals.fill(0.0);
-    let answer = Reader::new(archive, text, records, reals).scene();
+    pairs.fill(0);
+    let answer = read_into_cleared(archive, text, records, reals, pairs);
     if answer.is_err() {
         records.fill(0);
         reals.fill(0.0);
+        pairs.fill(0);
     }
     answer
+}
+
+fn read_into_cleared(
+    archive: bool,
+    text: &[u8],
+    records: &mut [u32],
+    reals: &mut [f64],
+    pairs: &mut [u32],
+) -> Result<Counts, Refused> {
+    if text.len() > MOST_BYTES {
+        return refuse(1, 0);
+    }
+    if pairs.len() < pairs_needed(records.len()) {
+        return refuse(27, 0);
+    }
+    Reader::new(archive, text, records, reals).scene(pairs)
+}
+
+/// How many numbers a pair table has to have, for a table of so many numbers of records.
+pub fn pairs_needed(records: usize) -> usize {
+    PAIR * MOST_RECORDS.min(records / RECORD)
+}
+
+/// Reads a scene into two tables, with pairs of its own.
+pub fn read_without_pairs(
+    archive: bool,
+    text: &[u8],
+    records: &mut [u32],
+    reals: &mut [f64],
+) -> Result<Counts, Refused> {
+    let mut pairs = vec![0; pairs_needed(records.len())];
+    read(archive, text, records, reals, &mut pairs)
 }
 
 // ---- words
@@ -107,11 +152,11 @@ enum Kind {
     Mixfunc,
 }
 
-fn is_surface(kind: u32) -> bool {
+pub fn is_surface(kind: u32) -> bool {
     (1..=9).contains(&kind)
 }
 
-fn is_material(kind: u32) -> bool {
+pub fn is_material(kind: u32) -> bool {
     (10..=24).contains(&kind)
 }
 
@@ -323,19 +368,18 @@ impl<'t, 'm> Reader<'t, 'm> {
         }
     }
 
-    fn scene(mut self) -> Result<Counts, Refused> {
-        if self.text.len() > MOST_BYTES {
-            return refuse(1, 0);
-        }
+    fn scene(mut self, pairs: &mut [u32]) -> Result<Counts, Refused> {
         loop {
             self.skip_blanks();
             match self.text.get(self.at) {
-                None => return Ok(Counts { primitives: self.primitives, reals: self.reals_used }),
+                None => break,
                 Some(b'#') => self.skip_line(),
                 Some(b'!') => return refuse(4, self.at),
                 Some(_) => self.statement()?,
             }
         }
+        self.resolve(pairs)?;
+        Ok(Counts { primitives: self.primitives, reals: self.reals_used })
     }
 
     fn skip_blanks(&mut self) {
@@ -488,18 +532,54 @@ impl<'t, 'm> Reader<'t, 'm> {
             self.records[RECORD * (earlier - 1) + NEXT] = self.primitives as u32;
         }
     }
+
+    /// The sides of all mixtures, once the latest primitive of each name is the last in the whole text.
+    fn resolve(&self, pairs: &mut [u32]) -> Result<(), Refused> {
+        let mut mixtures = false;
+        for (record, at) in self.records.chunks_exact(RECORD).take(self.primitives).zip((0..).step_by(PAIR)) {
+            if record[TYPE] == MIXFUNC {
+                let pair = match record[TARGET] as usize {
+                    0 => self.sides(record[STRING] as usize)?,
+                    target => [0, 1].map(|side| pairs[PAIR * (target - 1) + side]),
+                };
+                pairs[at..at + PAIR].copy_from_slice(&pair);
+                mixtures = true;
+            }
+        }
+        // Modifiers alone lead to no loop
+        let on_loop = if mixtures { Tables::new(self.records, pairs, self.primitives).lowest_on_loop() } else { None };
+        match on_loop {
+            None => Ok(()),
+            Some(number) => refuse(26, self.records[RECORD * (number - 1) + NAME] as usize),
+        }
+    }
+
+    /// What the two words at a place lead to.
+    fn sides(&self, place: usize) -> Result<[u32; 2], Refused> {
+        let (place, len) = next_word(self.text, place);
+        let foreground = self.side(place, len)?;
+        let (place, len) = next_word(self.text, place + len);
+        Ok([foreground, self.side(place, len)?])
+    }
+
+    fn side(&self, place: usize, len: usize) -> Result<u32, Refused> {
+        match &self.text[place..place + len] {
+            b"void" => Ok(0),
+            bytes => self.lookup(Word { place, bytes }, 25).map(|number| number as u32),
+        }
+    }
 }
 
 // ---- questions to a table, which may hold anything
 
 const NO_SUCH_PRIMITIVE: u32 = 17;
-const BAD_TABLE: u32 = 18;
+pub const BAD_TABLE: u32 = 18;
 const USED_UP: u32 = 19;
 
 const POLYGON: u32 = 4;
 
 /// The records that a count states, from number 1 on, if the number is one of them.
-fn stated(records: &[u32], count: usize, number: usize) -> Result<&[u32], u32> {
+pub fn stated(records: &[u32], count: usize, number: usize) -> Result<&[u32], u32> {
     if count > MOST_RECORDS || count > records.len() / RECORD {
         Err(BAD_TABLE)
     } else if number == 0 || number > count {

@@ -3,11 +3,15 @@
 //! reader gives.
 //!
 //! All steps of an accepted text are inlined into one function, and no call is lent the cursor: so the place in the text stays in a
-//! register. What only a refusal needs is worked out once more, behind calls.
+//! register. What only a refusal needs is worked out once more, behind calls, and so are the sides of mixtures, for scenes that have any.
 
 use super::index::INDEX;
-use super::scene::{Counts, Refused, LONGEST_WORD, MOST_BYTES, MOST_REALS, MOST_RECORDS, RECORD};
+use super::mixtures::Tables;
+use super::scene::{pairs_needed, Counts, Refused};
+use super::scene::{LONGEST_WORD, MODIFIER, MOST_BYTES, MOST_REALS, MOST_RECORDS, PAIR, RECORD};
 
+const NAME: usize = 3;
+const STRING: usize = 5;
 const NEXT: usize = 9;
 
 type Answer<T> = Result<T, Refused>;
@@ -17,17 +21,22 @@ fn refuse<T>(reason: u32, place: usize) -> Answer<T> {
     Err(Refused { reason, place })
 }
 
-/// Reads a scene into both tables, which are all zero after a refusal. Only the archive reading accepts antimatter.
-pub fn read(archive: bool, text: &[u8], records: &mut [u32], reals: &mut [f64]) -> Answer<Counts> {
+/// Reads a scene into three tables, which are all zero after a refusal. Only the archive reading accepts antimatter.
+pub fn read(archive: bool, text: &[u8], records: &mut [u32], reals: &mut [f64], pairs: &mut [u32]) -> Answer<Counts> {
     records.fill(0);
     reals.fill(0.0);
+    pairs.fill(0);
     if text.len() > MOST_BYTES {
         return refuse(1, 0);
     }
-    let answer = Reader::new(archive, text, records, reals).scene();
+    if pairs.len() < pairs_needed(records.len()) {
+        return refuse(27, 0);
+    }
+    let answer = Reader::new(archive, text, records, reals).scene(pairs);
     if answer.is_err() {
         records.fill(0);
         reals.fill(0.0);
+        pairs.fill(0);
     }
     answer
 }
@@ -417,6 +426,8 @@ struct Reader<'t, 'm> {
     primitives: usize,
     reals: &'m mut [f64],
     reals_used: usize,
+    /// Whether there is a mixture so far.
+    mixtures: bool,
     /// The latest primitive of each name; 0 where there is none.
     index: [u32; INDEX],
 }
@@ -433,20 +444,25 @@ impl<'t, 'm> Reader<'t, 'm> {
             primitives: 0,
             reals: &mut reals[..real_room],
             reals_used: 0,
+            mixtures: false,
             index: [0; INDEX],
         }
     }
 
     #[inline(always)]
-    fn scene(mut self) -> Answer<Counts> {
+    fn scene(mut self, pairs: &mut [u32]) -> Answer<Counts> {
         loop {
             match self.cursor.skip_blanks() {
-                None => return Ok(Counts { primitives: self.primitives, reals: self.reals_used }),
+                None => break,
                 Some(b'#') => self.cursor.skip_comment(),
                 Some(b'!') => return refuse(4, self.cursor.at),
                 Some(_) => self.statement()?,
             }
         }
+        if self.mixtures {
+            resolve(self.cursor.text, &self.records[..self.primitives], &self.index, pairs)?;
+        }
+        Ok(Counts { primitives: self.primitives, reals: self.reals_used })
     }
 
     #[inline(always)]
@@ -508,6 +524,7 @@ impl<'t, 'm> Reader<'t, 'm> {
         self.enter([kind as u32, modifier, 0, place, len, string, strings, real, reals, 0, line]);
         if !kind.is_surface() {
             self.give(name);
+            self.mixtures |= kind == Mixfunc;
         }
         Ok(())
     }
@@ -569,7 +586,7 @@ impl<'t, 'm> Reader<'t, 'm> {
     /// From now on the name leads to the latest primitive.
     #[inline(always)]
     fn give(&mut self, name: Word) {
-        let at = self.search(name);
+        let at = search(self.cursor.text, self.records, &self.index, name);
         let (earlier, latest) = (number(self.index[at]), self.primitives as u32);
         if earlier != 0 {
             self.records[earlier - 1][NEXT] = latest;
@@ -579,27 +596,121 @@ impl<'t, 'm> Reader<'t, 'm> {
 
     #[inline(always)]
     fn lookup(&self, word: Word, reason: u32) -> Answer<u32> {
-        match number(self.index[self.search(word)]) {
-            0 => refuse(reason, word.place),
-            number => Ok(number as u32),
+        found(self.cursor.text, self.records, &self.index, word, reason)
+    }
+}
+
+/// The latest primitive of a name.
+#[inline(always)]
+fn found(text: &[u8], records: &[Record], index: &[u32; INDEX], word: Word, reason: u32) -> Answer<u32> {
+    match number(index[search(text, records, index, word)]) {
+        0 => refuse(reason, word.place),
+        number => Ok(number as u32),
+    }
+}
+
+/// The entry of a name, or the empty one where it would be. Half of the entries stay empty, so there is one.
+#[inline(always)]
+fn search(text: &[u8], records: &[Record], index: &[u32; INDEX], word: Word) -> usize {
+    let mut at = word.hash as usize % INDEX;
+    loop {
+        let entry = index[at];
+        if entry == 0 || entry / NUMBERS == word.hash / NUMBERS && name_of(text, records, number(entry)) == word.bytes {
+            return at;
+        }
+        at = (at + 1) % INDEX;
+    }
+}
+
+fn name_of<'t>(text: &'t [u8], records: &[Record], number: usize) -> &'t [u8] {
+    let [_, _, _, place, len, ..] = records[number - 1];
+    &text[place as usize..][..len as usize]
+}
+
+// ---- mixtures
+
+type Pair = [u32; PAIR];
+
+/// The sides of all mixtures, when all is read. All links that lead down lead to no loop, so it is looked for where a side leads up.
+#[inline(never)]
+fn resolve(text: &[u8], records: &[Record], index: &[u32; INDEX], pairs: &mut [u32]) -> Answer<()> {
+    let pairs = &mut pairs.as_chunks_mut::<PAIR>().0[..records.len()];
+    let mut leads_up = false;
+    for (at, &[kind, _, target, ..]) in records.iter().enumerate() {
+        if kind == Mixfunc as u32 {
+            let pair = if target == 0 {
+                let mut strings = Cursor { text, at: records[at][STRING] as usize, line: 0 };
+                [side(text, records, index, strings.word()?)?, side(text, records, index, strings.word()?)?]
+            } else {
+                pairs[target as usize - 1]
+            };
+            pairs[at] = pair;
+            leads_up |= pair.iter().any(|&side| side as usize > at);
         }
     }
+    if leads_up && has_loop(records, pairs) {
+        return refuse_loop(records, pairs);
+    }
+    Ok(())
+}
 
-    /// The entry of a name, or the empty one where it would be. Half of the entries stay empty, so there is one.
-    #[inline(always)]
-    fn search(&self, word: Word) -> usize {
-        let mut at = word.hash as usize % INDEX;
-        loop {
-            let entry = self.index[at];
-            if entry == 0 || entry / NUMBERS == word.hash / NUMBERS && self.name_of(number(entry)) == word.bytes {
-                return at;
+fn side(text: &[u8], records: &[Record], index: &[u32; INDEX], word: Word) -> Answer<u32> {
+    if word.bytes == b"void" {
+        return Ok(0);
+    }
+    found(text, records, index, word, 25)
+}
+
+const NEW: u8 = 0;
+const OPEN: u8 = 1;
+const DONE: u8 = 2;
+
+/// Whether a walk from any primitive comes to one that it has not left yet.
+fn has_loop(records: &[Record], pairs: &[Pair]) -> bool {
+    let mut states = [NEW; MOST_RECORDS];
+    // A primitive, by its place, and how many of its three links are followed
+    let mut way = [(0_u16, 0_u8); MOST_RECORDS];
+    for start in 0..records.len() {
+        if states[start] != NEW {
+            continue;
+        }
+        (way[0], states[start]) = ((start as u16, 0), OPEN);
+        let mut depth = 1;
+        while depth > 0 {
+            let (at, followed) = way[depth - 1];
+            let at = usize::from(at);
+            let link = match followed {
+                0 => records[at][MODIFIER],
+                1 => pairs[at][0],
+                2 => pairs[at][1],
+                _ => {
+                    states[at] = DONE;
+                    depth -= 1;
+                    continue;
+                }
+            };
+            way[depth - 1].1 += 1;
+            if link == 0 {
+                continue;
             }
-            at = (at + 1) % INDEX;
+            let next = link as usize - 1;
+            match states[next] {
+                NEW => {
+                    (way[depth], states[next]) = ((next as u16, 0), OPEN);
+                    depth += 1;
+                }
+                OPEN => return true,
+                _ => {}
+            }
         }
     }
+    false
+}
 
-    fn name_of(&self, number: usize) -> &'t [u8] {
-        let [_, _, _, place, len, ..] = self.records[number - 1];
-        &self.cursor.text[place as usize..][..len as usize]
-    }
+/// Refuses a loop at the name of the lowest primitive on any.
+#[cold]
+fn refuse_loop<T>(records: &[Record], pairs: &[Pair]) -> Answer<T> {
+    let tables = Tables::new(records.as_flattened(), pairs.as_flattened(), records.len());
+    let number = tables.lowest_on_loop().expect("there is a loop");
+    refuse(26, records[number - 1][NAME] as usize)
 }

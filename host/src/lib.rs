@@ -1,13 +1,13 @@
-//! Kribbelsteen for Rust: reads Radiance scene texts into tables that the caller lends, walks from a panel to its finish, compares
-//! two saves of a scene, writes a scene out tidy, and works out ray hits and Fresnel values. The work is done by a library that is
-//! proved to meet its contracts; this package only gives its numbers their Rust forms.
+//! Kribbelsteen for Rust: reads Radiance scene texts into tables that the caller lends, walks from a panel to its finish or to every
+//! material that it may show, compares two saves of a scene, writes a scene out tidy, and works out ray hits and Fresnel values. The
+//! work is done by a library that is proved to meet its contracts; this package only gives its numbers their Rust forms.
 //!
 //! ```
-//! use kribbelsteen::{Mode, Scene, RECORD};
+//! use kribbelsteen::{Mode, Scene, PAIR, RECORD};
 //!
 //! let text = b"void plastic wall 0 0 5 .5 .5 .5 0 0\nwall sphere lamp 0 0 4 0 0 0 1\n";
-//! let (mut records, mut reals) = ([0; RECORD * 8], [0.0; 32]);
-//! let scene = Scene::read(Mode::New, text, &mut records, &mut reals)?;
+//! let (mut records, mut reals, mut pairs) = ([0; RECORD * 8], [0.0; 32], [0; PAIR * 8]);
+//! let scene = Scene::read(Mode::New, text, &mut records, &mut reals, &mut pairs)?;
 //! assert_eq!(scene.counts().primitives, 2);
 //! let finish = scene.finish(2)?;
 //! assert_eq!(scene.name(finish.material.unwrap())?, b"wall");
@@ -19,7 +19,8 @@
 //! ```
 //! use kribbelsteen::{Mode, Reason, Scene};
 //!
-//! let refusal = Scene::read(Mode::New, b"a sphere s 0 0 4 0 0 0 1", &mut [0; 11], &mut [0.0; 4]).unwrap_err();
+//! let text = b"a sphere s 0 0 4 0 0 0 1";
+//! let refusal = Scene::read(Mode::New, text, &mut [0; 11], &mut [0.0; 4], &mut [0; 2]).unwrap_err();
 //! assert_eq!(refusal.reason, Reason::NoModifier);
 //! assert_eq!(refusal.to_string(), "modifier not defined above (reason 7), at byte 0");
 //! ```
@@ -36,9 +37,9 @@ mod words;
 mod writing;
 
 pub use polygons::{polygon, polygon_above, polygon_in_table, polygon_in_table_above, PolygonRefusal};
-pub use questions::{finish, name, Finish, Question};
+pub use questions::{finish, name, shown, Finish, Question};
 pub use rays::{fresnel, ring, ring_above, root, sphere, sphere_above, Ray, Reflection, Ring, Sphere, Step, LEAST};
-pub use reading::{read, read_indexed, Counts, Indexed, Mode, Primitive, Reason, Refusal, Scene};
+pub use reading::{read, read_indexed, Counts, Indexed, Mode, Pair, Primitive, Reason, Refusal, Scene};
 pub use saves::{compare, read_both, Line, Lines, SaveRefusal, Saves, Side, State};
 pub use types::Type;
 pub use words::{next_word, words, Word, Words};
@@ -54,5 +55,7 @@ pub const MOST_PRIMITIVES: usize = 1_024;
 pub const MOST_REALS: usize = 4_096;
 /// How many numbers of a lent table a primitive takes.
 pub const RECORD: usize = 11;
+/// How many numbers of a lent pair table a primitive takes.
+pub const PAIR: usize = 2;
 /// How many entries an index of names has to have.
 pub const INDEX: usize = 2_048;

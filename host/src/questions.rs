@@ -1,4 +1,4 @@
-//! Questions to a table, which may hold anything: a primitive's name, and its finish.
+//! Questions to a table, which may hold anything: a primitive's name, its finish, and the materials that it may show.
 
 use crate::raw;
 use std::error::Error;
@@ -9,13 +9,15 @@ use std::fmt;
 pub enum Question {
     /// 17: the number is 0 or above the stated count.
     NoSuchPrimitive,
-    /// 18: the stated count is over 1,024 or more than the table holds, or the table is not one that a reading gives.
+    /// 18: the stated count is over 1,024 or more than a table holds, or the tables are not those that a reading gives.
     BadTable,
     /// 19: another link is needed, and the allowance is used up.
     UsedUp {
         /// The links that were followed: the allowance.
         links: usize,
     },
+    /// 23: the lent list has fewer entries than there are materials.
+    ListTooShort,
 }
 
 impl Question {
@@ -25,6 +27,7 @@ impl Question {
             Question::NoSuchPrimitive => 17,
             Question::BadTable => 18,
             Question::UsedUp { .. } => 19,
+            Question::ListTooShort => 23,
         }
     }
 
@@ -34,7 +37,8 @@ impl Question {
             17 => Some(Question::NoSuchPrimitive),
             18 => Some(Question::BadTable),
             19 => Some(Question::UsedUp { links }),
-            _ => unreachable!("the library refuses questions by 17, 18 and 19"),
+            23 => Some(Question::ListTooShort),
+            _ => unreachable!("the library refuses questions by 17 to 19 and 23"),
         }
     }
 }
@@ -45,6 +49,7 @@ impl fmt::Display for Question {
             Question::NoSuchPrimitive => f.write_str("no primitive has this number (reason 17)"),
             Question::BadTable => f.write_str("the table is not one that a reading gives (reason 18)"),
             Question::UsedUp { links } => write!(f, "the allowance of {links} links is used up (reason 19)"),
+            Question::ListTooShort => f.write_str("the list is too short (reason 23)"),
         }
     }
 }
@@ -75,6 +80,23 @@ pub fn finish(records: &[u32], count: usize, number: usize, allowance: usize) ->
     let (reason, [material, links]) = raw::finish(records, count, number, allowance);
     match Question::from_number(reason, links) {
         None => Ok(Finish { material: (material != 0).then_some(material), links }),
+        Some(refusal) => Err(refusal),
+    }
+}
+
+/// The materials that a primitive may show, in tables of so many records and pairs: those that modifiers and both sides of mixtures
+/// lead to, stopping at each material reached. They are listed in the lent list, each once and the smallest number first, and that part
+/// of it is given; the rest becomes 0, and all of it on a refusal. As many entries as there are records are enough.
+pub fn shown<'l>(
+    records: &[u32],
+    pairs: &[u32],
+    count: usize,
+    number: usize,
+    list: &'l mut [u32],
+) -> Result<&'l [u32], Question> {
+    let (reason, listed) = raw::shown(records, pairs, count, number, list);
+    match Question::from_number(reason, 0) {
+        None => Ok(&list[..listed]),
         Some(refusal) => Err(refusal),
     }
 }

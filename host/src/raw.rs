@@ -13,6 +13,8 @@ extern "C" {
         records_len: usize,
         reals: *mut f64,
         reals_len: usize,
+        pairs: *mut u32,
+        pairs_len: usize,
         answer: *mut usize,
     ) -> u32;
     fn kribbelsteen_read_indexed(
@@ -23,6 +25,8 @@ extern "C" {
         records_len: usize,
         reals: *mut f64,
         reals_len: usize,
+        pairs: *mut u32,
+        pairs_len: usize,
         index: *mut u32,
         index_len: usize,
         answer: *mut usize,
@@ -42,6 +46,17 @@ extern "C" {
         count: usize,
         number: usize,
         allowance: usize,
+        answer: *mut usize,
+    ) -> u32;
+    fn kribbelsteen_shown(
+        records: *const u32,
+        records_len: usize,
+        pairs: *const u32,
+        pairs_len: usize,
+        count: usize,
+        number: usize,
+        list: *mut u32,
+        list_len: usize,
         answer: *mut usize,
     ) -> u32;
     fn kribbelsteen_next_word(text: *const u8, text_len: usize, at: usize, answer: *mut usize);
@@ -155,7 +170,7 @@ extern "C" {
 }
 
 /// Reads a scene in the mode of a number: the reason, 0 if accepted; then place, primitives and reals.
-pub fn read(mode: u32, text: &[u8], records: &mut [u32], reals: &mut [f64]) -> (u32, [usize; 3]) {
+pub fn read(mode: u32, text: &[u8], records: &mut [u32], reals: &mut [f64], pairs: &mut [u32]) -> (u32, [usize; 3]) {
     let mut answer = [usize::MAX; 3];
     // SAFETY: each pointer and length is that of a slice, the answer has three entries, and the borrows keep what is written apart.
     let reason = unsafe {
@@ -167,6 +182,8 @@ pub fn read(mode: u32, text: &[u8], records: &mut [u32], reals: &mut [f64]) -> (
             records.len(),
             reals.as_mut_ptr(),
             reals.len(),
+            pairs.as_mut_ptr(),
+            pairs.len(),
             answer.as_mut_ptr(),
         )
     };
@@ -180,6 +197,7 @@ pub fn read_indexed(
     text: &[u8],
     records: &mut [u32],
     reals: &mut [f64],
+    pairs: &mut [u32],
     index: &mut [u32],
 ) -> (u32, [usize; 4]) {
     let mut answer = [usize::MAX; 4];
@@ -193,6 +211,8 @@ pub fn read_indexed(
             records.len(),
             reals.as_mut_ptr(),
             reals.len(),
+            pairs.as_mut_ptr(),
+            pairs.len(),
             index.as_mut_ptr(),
             index.len(),
             answer.as_mut_ptr(),
@@ -226,6 +246,26 @@ pub fn finish(records: &[u32], count: usize, number: usize, allowance: usize) ->
     let reason =
         unsafe { kribbelsteen_finish(records.as_ptr(), records.len(), count, number, allowance, answer.as_mut_ptr()) };
     (reason, answer)
+}
+
+/// The materials that a primitive may show, into a lent list: a refusal's number, 0 for none; then how many are listed.
+pub fn shown(records: &[u32], pairs: &[u32], count: usize, number: usize, list: &mut [u32]) -> (u32, usize) {
+    let mut answer = [usize::MAX];
+    // SAFETY: each pointer and length is that of a slice, the answer has one entry, and the borrows keep what is written apart.
+    let reason = unsafe {
+        kribbelsteen_shown(
+            records.as_ptr(),
+            records.len(),
+            pairs.as_ptr(),
+            pairs.len(),
+            count,
+            number,
+            list.as_mut_ptr(),
+            list.len(),
+            answer.as_mut_ptr(),
+        )
+    };
+    (reason, answer[0])
 }
 
 /// Place and length of the word at or after a place; the text's length and 0 if there is none.

@@ -1,7 +1,7 @@
 //! Scene texts, read into lent tables.
 
 use crate::{polygon_in_table, polygon_in_table_above, questions, raw, writing};
-use crate::{Finish, PolygonRefusal, Question, Ray, Type, Unwritten, Word, Words, INDEX, RECORD};
+use crate::{Finish, PolygonRefusal, Question, Ray, Type, Unwritten, Word, Words, INDEX, PAIR, RECORD};
 use std::error::Error;
 use std::fmt;
 
@@ -58,6 +58,12 @@ pub enum Reason {
     HouseRule = 16,
     /// The lent index has under 2,048 entries.
     IndexTooSmall = 24,
+    /// The foreground or the background of a mixfunc is not defined anywhere.
+    SideNotDefined = 25,
+    /// Modifiers and sides of mixtures lead from a primitive back to itself.
+    Loop = 26,
+    /// The lent pair table has under two entries for each record of room.
+    PairsTooSmall = 27,
     /// The type is antimatter, which the new reading refuses.
     RetiredType = 28,
 }
@@ -68,7 +74,7 @@ impl Reason {
         self as u32
     }
 
-    /// The reason of a number; none outside 1 to 16, 24 and 28, and none for 11, which is given no more.
+    /// The reason of a number; none outside 1 to 16 and 24 to 28, and none for 11, which is given no more.
     pub fn from_number(number: u32) -> Option<Reason> {
         Some(match number {
             1 => Reason::TextTooLong,
@@ -87,6 +93,9 @@ impl Reason {
             15 => Reason::NumeralRange,
             16 => Reason::HouseRule,
             24 => Reason::IndexTooSmall,
+            25 => Reason::SideNotDefined,
+            26 => Reason::Loop,
+            27 => Reason::PairsTooSmall,
             28 => Reason::RetiredType,
             _ => return None,
         })
@@ -112,6 +121,9 @@ impl fmt::Display for Reason {
             Reason::NumeralRange => "coefficient or power too large",
             Reason::HouseRule => "real breaks a house rule",
             Reason::IndexTooSmall => "index under 2,048 entries",
+            Reason::SideNotDefined => "side of a mixture not defined",
+            Reason::Loop => "modifiers and sides lead in a loop",
+            Reason::PairsTooSmall => "pair table under two entries per record",
             Reason::RetiredType => "antimatter in a new scene",
         })
     }
@@ -120,16 +132,17 @@ impl fmt::Display for Reason {
 /// Why a scene is refused, and where. All lent tables are all zero then.
 #[derive(Clone, Copy, Debug, PartialEq, Eq, Hash)]
 pub struct Refusal {
-    /// The reason; of several at one place the one with the lowest number.
+    /// The reason; of several at one place the one with the lowest number. Sides that are not defined come after all others, and loops
+    /// after these.
     pub reason: Reason,
-    /// The earliest place with a reason, in bytes from the text's start.
+    /// The earliest place with a reason, in bytes from the text's start; for a loop the name of the lowest primitive on any.
     pub place: usize,
 }
 
 impl Refusal {
     /// The refusal of a reader's number.
     pub(crate) fn from_number(number: u32, place: usize) -> Refusal {
-        let reason = Reason::from_number(number).expect("the library refuses scenes by 1 to 16, 24 and 28");
+        let reason = Reason::from_number(number).expect("the library refuses scenes by 1 to 16 and 24 to 28");
         Refusal { reason, place }
     }
 }
@@ -151,12 +164,19 @@ pub struct Counts {
     pub reals: usize,
 }
 
-/// Reads a scene, in a mode, into both tables. There is room for a record in each eleven numbers, at most 1,024 of them, and for at most 4,096
-/// reals. Entries beyond those used become 0, and all of them if the scene is refused.
+/// Reads a scene, in a mode, into three tables. There is room for a record in each eleven numbers, at most 1,024 of them, and for at
+/// most 4,096 reals; the pair table is to have two entries for each record of room. Entries beyond those used become 0, and all of them
+/// if the scene is refused.
 ///
 /// Take this call where no more memory is to be lent, else [`read_indexed`].
-pub fn read(mode: Mode, text: &[u8], records: &mut [u32], reals: &mut [f64]) -> Result<Counts, Refusal> {
-    let (number, [place, primitives, reals]) = raw::read(mode.number(), text, records, reals);
+pub fn read(
+    mode: Mode,
+    text: &[u8],
+    records: &mut [u32],
+    reals: &mut [f64],
+    pairs: &mut [u32],
+) -> Result<Counts, Refusal> {
+    let (number, [place, primitives, reals]) = raw::read(mode.number(), text, records, reals, pairs);
     match number {
         0 => Ok(Counts { primitives, reals }),
         _ => Err(Refusal::from_number(number, place)),
@@ -173,19 +193,19 @@ pub struct Indexed {
 }
 
 /// Reads a scene as [`read`] does, with a lent index of names; [`INDEX`] entries are enough, and with fewer the scene is refused.
-/// With as many, refusal, counts and both tables are those of [`read`], for every text. Entries of the index beyond those become 0, and
-/// all of them if the scene is refused.
+/// With as many, refusal, counts and the other tables are those of [`read`], for every text. Entries of the index beyond those become
+/// 0, and all of them if the scene is refused.
 ///
 /// Take this call wherever 8 KiB can be lent: it is as fast up to about a hundred primitives and faster beyond, as with usual names
 /// its time does not grow with the square of their number. Names made to collide cost more looks, so that it may take longer than
 /// [`read`], but never change the answer.
 ///
 /// ```
-/// use kribbelsteen::{read_indexed, Mode, INDEX, RECORD};
+/// use kribbelsteen::{read_indexed, Mode, INDEX, PAIR, RECORD};
 ///
 /// let text = b"void light lamp 0 0 3 1 1 1\nlamp sphere bulb 0 0 4 0 0 0 1\n";
-/// let (mut records, mut reals, mut index) = ([0; RECORD * 2], [0.0; 7], [0; INDEX]);
-/// let read = read_indexed(Mode::New, text, &mut records, &mut reals, &mut index)?;
+/// let (mut records, mut reals, mut pairs, mut index) = ([0; RECORD * 2], [0.0; 7], [0; PAIR * 2], [0; INDEX]);
+/// let read = read_indexed(Mode::New, text, &mut records, &mut reals, &mut pairs, &mut index)?;
 /// assert_eq!((read.counts.primitives, read.looked), (2, 2));
 /// # Ok::<(), Box<dyn std::error::Error>>(())
 /// ```
@@ -194,22 +214,35 @@ pub fn read_indexed(
     text: &[u8],
     records: &mut [u32],
     reals: &mut [f64],
+    pairs: &mut [u32],
     index: &mut [u32],
 ) -> Result<Indexed, Refusal> {
-    let (number, [place, primitives, reals, looked]) = raw::read_indexed(mode.number(), text, records, reals, index);
+    let (number, [place, primitives, reals, looked]) =
+        raw::read_indexed(mode.number(), text, records, reals, pairs, index);
     match number {
         0 => Ok(Indexed { counts: Counts { primitives, reals }, looked }),
         _ => Err(Refusal::from_number(number, place)),
     }
 }
 
-/// An accepted scene: the mode of its reading, its text and both tables.
+/// The sides of a mixture, by the numbers of their primitives; none for `void`.
+#[derive(Clone, Copy, Debug, PartialEq, Eq, Hash)]
+pub struct Pair {
+    /// What the first string leads to.
+    pub foreground: Option<usize>,
+    /// What the second string leads to.
+    pub background: Option<usize>,
+}
+
+/// An accepted scene: the mode of its reading, its text and its tables.
 #[derive(Clone, Copy, Debug)]
 pub struct Scene<'s> {
     pub(crate) mode: Mode,
     pub(crate) text: &'s [u8],
     pub(crate) records: &'s [u32],
     pub(crate) reals: &'s [f64],
+    /// Empty where the reading takes no pair table.
+    pairs: &'s [u32],
 }
 
 impl<'s> Scene<'s> {
@@ -220,8 +253,9 @@ impl<'s> Scene<'s> {
         text: &'s [u8],
         records: &'s mut [u32],
         reals: &'s mut [f64],
+        pairs: &'s mut [u32],
     ) -> Result<Scene<'s>, Refusal> {
-        Scene::read_indexed(mode, text, records, reals, &mut [0; INDEX])
+        Scene::read_indexed(mode, text, records, reals, pairs, &mut [0; INDEX])
     }
 
     /// Reads a scene, as [`read_indexed`] does, and keeps its parts together. Take this call where the index is not to be on the
@@ -231,15 +265,17 @@ impl<'s> Scene<'s> {
         text: &'s [u8],
         records: &'s mut [u32],
         reals: &'s mut [f64],
+        pairs: &'s mut [u32],
         index: &mut [u32],
     ) -> Result<Scene<'s>, Refusal> {
-        let Indexed { counts, .. } = read_indexed(mode, text, records, reals, index)?;
-        Ok(Scene::of(mode, text, records, reals, counts))
+        let Indexed { counts, .. } = read_indexed(mode, text, records, reals, pairs, index)?;
+        let pairs = &pairs[..PAIR * counts.primitives];
+        Ok(Scene { pairs, ..Scene::of(mode, text, records, reals, counts) })
     }
 
-    /// The used parts of the tables of an accepted scene.
+    /// The used parts of the tables of an accepted scene, with no pairs.
     pub(crate) fn of(mode: Mode, text: &'s [u8], records: &'s [u32], reals: &'s [f64], counts: Counts) -> Scene<'s> {
-        Scene { mode, text, records: &records[..RECORD * counts.primitives], reals: &reals[..counts.reals] }
+        Scene { mode, text, records: &records[..RECORD * counts.primitives], reals: &reals[..counts.reals], pairs: &[] }
     }
 
     /// How the scene was read.
@@ -265,6 +301,31 @@ impl<'s> Scene<'s> {
     /// The finish of the primitive of a number, with no more links followed than allowed.
     pub fn finish_within(&self, number: usize, allowance: usize) -> Result<Finish, Question> {
         questions::finish(self.records, self.counts().primitives, number, allowance)
+    }
+
+    /// The sides of the primitive of a number: none where it is no mixture, and throughout [two saves](crate::Saves), which are read
+    /// with no pair table.
+    pub fn pair(&self, number: usize) -> Option<Pair> {
+        let pair = self.pairs.chunks_exact(PAIR).nth(number.checked_sub(1)?)?;
+        let side = |at: usize| Some(pair[at] as usize).filter(|&number| number != 0);
+        let is_mixture = self.primitive(number)?.kind() == Type::Mixfunc;
+        is_mixture.then(|| Pair { foreground: side(0), background: side(1) })
+    }
+
+    /// The materials that the primitive of a number may show, in a lent list, as [`shown`](crate::shown) gives them; one entry for each
+    /// primitive is enough. [Two saves](crate::Saves) are read with no pair table, and refused by [`Question::BadTable`].
+    ///
+    /// ```
+    /// use kribbelsteen::{Mode, Scene, PAIR, RECORD};
+    ///
+    /// let text = b"void mixfunc mix 4 oak void v f.cal 0 0\nmix sphere knob 0 0 4 0 0 0 1\nvoid plastic oak 0 0 5 .5 .4 .2 0 0\n";
+    /// let (mut records, mut reals, mut pairs, mut list) = ([0; RECORD * 3], [0.0; 9], [0; PAIR * 3], [0; 3]);
+    /// let scene = Scene::read(Mode::New, text, &mut records, &mut reals, &mut pairs)?;
+    /// assert_eq!(scene.shown(2, &mut list)?, [3]);
+    /// # Ok::<(), Box<dyn std::error::Error>>(())
+    /// ```
+    pub fn shown<'l>(&self, number: usize, list: &'l mut [u32]) -> Result<&'l [u32], Question> {
+        questions::shown(self.records, self.pairs, self.counts().primitives, number, list)
     }
 
     /// The distance at which a ray hits the polygon of a number, none if it misses. What is not above [`LEAST`](crate::LEAST) is no

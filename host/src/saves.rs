@@ -55,7 +55,7 @@ impl Error for SaveRefusal {
     }
 }
 
-/// Reads two scenes in one mode, the left one first, each as [`read`](crate::read) does. If one is refused the tables of both become 0.
+/// Reads two scenes in one mode, the left one first, each as [`read`](crate::read) does with pairs enough. If one is refused the tables of both become 0.
 pub fn read_both(
     mode: Mode,
     left: &[u8],
@@ -161,13 +161,13 @@ pub struct Line<'s> {
 /// taken, [`raw::next_line`] finds the same lines one by one, in a time that grows with the square of the number of primitives.
 ///
 /// ```
-/// use kribbelsteen::{compare, Mode, Scene, State, RECORD};
+/// use kribbelsteen::{Mode, Saves, State, RECORD};
 ///
 /// let (mut records, mut reals) = ([[0; RECORD]; 2], [[0.0; 3]; 2]);
 /// let ([a, b], [x, y]) = (&mut records, &mut reals);
-/// let left = Scene::read(Mode::New, b"void light lamp 0 0 3 1 1 1", a, x)?;
-/// let right = Scene::read(Mode::New, b"void light lamp 0 0 3 2 2 2", b, y)?;
-/// let lines: Vec<_> = compare(left, right).map(|line| (line.name, line.nth, line.state)).collect();
+/// let (left, right) = (b"void light lamp 0 0 3 1 1 1", b"void light lamp 0 0 3 2 2 2");
+/// let saves = Saves::read(Mode::New, left, a, x, right, b, y)?;
+/// let lines: Vec<_> = saves.lines().map(|line| (line.name, line.nth, line.state)).collect();
 /// assert_eq!(lines, [(&b"lamp"[..], 1, State::Changed)]);
 /// # Ok::<(), Box<dyn std::error::Error>>(())
 /// ```

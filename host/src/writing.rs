@@ -7,7 +7,7 @@ use std::fmt;
 /// Why a scene is not written. The output is all zero then.
 #[derive(Clone, Copy, Debug, PartialEq, Eq, Hash)]
 pub enum Unwritten {
-    /// 1 to 16 or 28: the text, read into tables of these sizes, is refused.
+    /// 1 to 16, 25, 26 or 28: the text, read into tables of these sizes, is refused.
     Refused(Refusal),
     /// 22: the tables are not those that reading the text gives.
     TablesDiffer,
@@ -43,11 +43,11 @@ impl Error for Unwritten {}
 /// enough.
 ///
 /// ```
-/// use kribbelsteen::{Mode, Scene, RECORD};
+/// use kribbelsteen::{Mode, Scene, PAIR, RECORD};
 ///
 /// let text = b"# a lamp\nvoid light   lamp 0 0 03 1 1 1";
-/// let (mut records, mut reals, mut out) = ([0; RECORD], [0.0; 3], [0; 64]);
-/// let scene = Scene::read(Mode::New, text, &mut records, &mut reals)?;
+/// let (mut records, mut reals, mut pairs, mut out) = ([0; RECORD], [0.0; 3], [0; PAIR], [0; 64]);
+/// let scene = Scene::read(Mode::New, text, &mut records, &mut reals, &mut pairs)?;
 /// assert_eq!(scene.write(&mut out)?, b"void light lamp\n0\n0\n3 1 1 1\n");
 /// # Ok::<(), Box<dyn std::error::Error>>(())
 /// ```

@@ -31,6 +31,28 @@ entry 458: 2
 entry 1058: 4
 indexed=24 place=0 primitives=0 reals=0 looked=0
 indexed=5 place=4 primitives=0 reals=0 looked=0
+mixed=0 place=0
+no=1 pair=0,0 listed=0 0: 0 0
+no=2 pair=0,6 listed=0 2: 1 6
+no=3 pair=0,6 listed=0 1: 6 0
+no=4 pair=0,0 listed=0 1: 6 0
+no=5 pair=0,0 listed=0 2: 1 6
+no=6 pair=0,0 listed=0 0: 0 0
+shown 7: 17 0, pairs short: 18 0
+mixed=0 place=0
+no=1 pair=0,0 listed=0 0: 0
+no=2 pair=0,6 listed=23 0: 0
+no=3 pair=0,6 listed=0 1: 6
+no=4 pair=0,0 listed=0 1: 6
+no=5 pair=0,0 listed=23 0: 0
+no=6 pair=0,0 listed=0 0: 0
+shown 7: 17 0, pairs short: 18 0
+mixed=27 place=0
+shown 1: 17 0, pairs short: 18 0
+mixed=25 place=19
+shown 1: 17 0, pairs short: 18 0
+mixed=26 place=13
+shown 1: 17 0, pairs short: 18 0
 name=bulb nth=1 state=right
 name=lamp nth=1 state=changed
 name=trim nth=1 state=left
@@ -41,6 +63,7 @@ name=trim nth=1 state=right
 name=wall nth=2 state=right
 scene=right refused=4 place=0
 scene=left refused=5 place=4
+scene=right refused=26 place=13
 written=0 place=0 length=126
 void plastic wall
 0

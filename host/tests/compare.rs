@@ -13,8 +13,8 @@ use made::{floats, numerals, scenes};
 use reference::index::{self, INDEX};
 use reference::random::Random;
 use reference::saves::{Comparison, Save};
-use reference::scene::{Counts, Refused, RECORD};
-use reference::{rays, saves, scene, tidy, tuned};
+use reference::scene::{pairs_needed, Counts, Refused, PAIR, RECORD};
+use reference::{mixtures, rays, saves, scene, tidy, tuned};
 use std::collections::BTreeMap;
 use std::fmt::Debug;
 use std::io::Write;
@@ -70,9 +70,9 @@ impl Tally {
     }
 }
 
-/// What a reading answers: 0 for accepted, or a reason. 11 is given no more.
+/// What a reading with pairs enough answers: 0 for accepted, or a reason. 11 is given no more.
 fn reasons() -> impl Iterator<Item = u32> {
-    (0..=16).filter(|reason| *reason != 11).chain([28])
+    (0..=16).filter(|reason| *reason != 11).chain([25, 26, 28])
 }
 
 /// A lent table with entries before and behind it that must stay as they are.
@@ -110,50 +110,56 @@ struct Read {
     answer: [usize; 3],
 }
 
-fn expected_read(archive: bool, text: &[u8], records: &mut [u32], reals: &mut [f64]) -> Read {
-    match scene::read(archive, text, records, reals) {
+fn expected_read(archive: bool, text: &[u8], records: &mut [u32], reals: &mut [f64], pairs: &mut [u32]) -> Read {
+    match scene::read(archive, text, records, reals, pairs) {
         Ok(counts) => Read { reason: 0, answer: [0, counts.primitives, counts.reals] },
         Err(refused) => Read { reason: refused.reason, answer: [refused.place, 0, 0] },
     }
 }
 
 fn shown(case: &scenes::Case) -> String {
-    let scenes::Case { mode, text, records, reals } = case;
-    format!("mode {mode}, text {:?}, lent {records} and {reals}", String::from_utf8_lossy(text))
+    let scenes::Case { mode, text, records, reals, pairs } = case;
+    format!("mode {mode}, text {:?}, lent {records}, {reals} and {pairs}", String::from_utf8_lossy(text))
 }
 
-/// Reads a scene both ways, compares all that comes of it, and gives the answer and the table.
-fn compare_reading(case: &scenes::Case) -> (Read, Vec<u32>) {
+/// Reads a scene both ways, compares all that comes of it, and gives the answer, the records and the pairs.
+fn compare_reading(case: &scenes::Case) -> (Read, Vec<u32>, Vec<u32>) {
     let (record_filling, real_filling) = (0xdead_beef, -1234.5);
     let mut records = Lent::new(case.records, record_filling);
     let mut reals = Lent::new(case.reals, real_filling);
+    let mut pairs = Lent::new(case.pairs, record_filling);
     let text = case.text.clone();
-    let (reason, answer) = raw::read(case.mode, &text, records.table(), reals.table());
+    let (reason, answer) = raw::read(case.mode, &text, records.table(), reals.table(), pairs.table());
     let ours = Read { reason, answer };
 
     let mut expected_records = vec![1; case.records];
     let mut expected_reals = vec![1.0; case.reals];
-    let expected = expected_read(case.is_archive(), &case.text, &mut expected_records, &mut expected_reals);
+    let mut expected_pairs = vec![1; case.pairs];
+    let expected =
+        expected_read(case.is_archive(), &case.text, &mut expected_records, &mut expected_reals, &mut expected_pairs);
 
     let shown = || shown(case);
     assert_eq!(ours, expected, "{}", shown());
     assert!(records.table() == expected_records, "records of {}", shown());
     assert!(bits(reals.table()).eq(bits(&expected_reals)), "reals of {}", shown());
+    assert!(pairs.table() == expected_pairs, "pairs of {}", shown());
     assert!(text == case.text, "the text was written: {}", shown());
     assert!(records.margins_are(record_filling), "written outside the records: {}", shown());
     assert!(reals.margins_are(real_filling), "written outside the reals: {}", shown());
-    (ours, expected_records)
+    assert!(pairs.margins_are(record_filling), "written outside the pairs: {}", shown());
+    (ours, expected_records, expected_pairs)
 }
 
 /// How many questions of each kind were asked.
 struct Questions {
     names: Tally,
     finishes: Tally,
+    lists: Tally,
 }
 
 impl Questions {
-    fn new(names: &'static str, finishes: &'static str) -> Self {
-        Questions { names: Tally::new(names), finishes: Tally::new(finishes) }
+    fn new(names: &'static str, finishes: &'static str, lists: &'static str) -> Self {
+        Questions { names: Tally::new(names), finishes: Tally::new(finishes), lists: Tally::new(lists) }
     }
 
     fn name(&mut self, text: &[u8], records: &[u32], count: usize, number: usize) {
@@ -178,7 +184,32 @@ impl Questions {
         ours.1[1]
     }
 
-    /// All about one number.
+    /// Asks for the materials that may be shown, in a list of so many entries, and gives how many they are.
+    fn shown(&mut self, records: &[u32], pairs: &[u32], count: usize, number: usize, room: usize) -> usize {
+        let filling = 0xdead_beef;
+        let mut list = Lent::new(room, filling);
+        let ours = raw::shown(records, pairs, count, number, list.table());
+        let found = mixtures::shown(records, pairs, count, number, room);
+        let shown = || format!("{number} of {count} shows, {room} listed, in {records:?} and {pairs:?}");
+        let expected = found.as_ref().map_or_else(|&reason| (reason, 0), |materials| (0, materials.len()));
+        assert_eq!(ours, expected, "{}", shown());
+        let mut whole = found.unwrap_or_default();
+        whole.resize(room, 0);
+        assert!(list.table() == whole, "list: {}", shown());
+        assert!(list.margins_are(filling), "written outside the list: {}", shown());
+        self.lists.add(ours.0);
+        ours.1
+    }
+
+    /// The materials in a list that is long enough, just so, and too short.
+    fn list(&mut self, records: &[u32], pairs: &[u32], count: usize, number: usize) {
+        let listed = self.shown(records, pairs, count, number, records.len() / RECORD);
+        for room in [listed + 3, listed, listed.saturating_sub(1), 0] {
+            self.shown(records, pairs, count, number, room);
+        }
+    }
+
+    /// All about one number but the list.
     fn ask(&mut self, text: &[u8], records: &[u32], count: usize, number: usize) {
         self.name(text, records, count, number);
         let links = self.finish(records, count, number, usize::MAX);
@@ -187,14 +218,16 @@ impl Questions {
         }
     }
 
-    /// All numbers of a table, and some that it has not.
-    fn ask_all(&mut self, text: &[u8], records: &[u32], count: usize) {
-        let before = records.to_vec();
+    /// All numbers of a table, and some that it has not. In a long table fewer lists are asked for: each takes a walk from every
+    /// primitive.
+    fn ask_all(&mut self, text: &[u8], records: &[u32], pairs: &[u32], count: usize) {
+        let before = (records.to_vec(), pairs.to_vec());
         let rows = records.len() / RECORD;
-        for number in (0..=count.min(rows) + 1).chain([count, usize::MAX, usize::MAX / RECORD + 2]) {
-            self.ask(text, records, count, number);
-        }
-        assert!(records == before, "a question wrote the table");
+        let numbers = || (0..=count.min(rows) + 1).chain([count, usize::MAX, usize::MAX / RECORD + 2]);
+        numbers().for_each(|number| self.ask(text, records, count, number));
+        let step = 1 + count.min(rows).pow(2) / 20_000;
+        numbers().step_by(step).for_each(|number| self.list(records, pairs, count, number));
+        assert!((records, pairs) == (&before.0, &before.1), "a question wrote a table");
     }
 }
 
@@ -209,32 +242,36 @@ fn stated_count(random: &mut Random, rows: usize) -> usize {
 fn scenes_are_read_alike() {
     let mut random = random(1);
     let mut read = Tally::new("scenes");
-    let mut asked = Questions::new("names in read tables", "finishes in read tables");
-    let mut damaged = Questions::new("names in damaged tables", "finishes in damaged tables");
+    let mut asked = Questions::new("names in read tables", "finishes in read tables", "lists in read tables");
+    let mut damaged =
+        Questions::new("names in damaged tables", "finishes in damaged tables", "lists in damaged tables");
     let mut words = 0;
     for _ in 0..scene_count() {
         let case = scenes::case(&mut random);
-        let (answer, records) = compare_reading(&case);
+        let (answer, records, pairs) = compare_reading(&case);
         read.add(answer.reason);
         if !case.is_archive() && answer.reason == 0 {
             let archive = compare_reading(&scenes::Case { mode: 1, text: case.text.clone(), ..case });
-            assert!(archive.0 == answer && archive.1 == records, "the archive reading of {}", shown(&case));
+            let same = (&archive.0, &archive.1, &archive.2) == (&answer, &records, &pairs);
+            assert!(same, "the archive reading of {}", shown(&case));
         }
         let count = answer.answer[1];
-        asked.ask_all(&case.text, &records, count);
-        damaged_tables(&mut random, &mut damaged, &case.text, &records[..RECORD * count]);
+        asked.ask_all(&case.text, &records, &pairs, count);
+        damaged_tables(&mut random, &mut damaged, &case.text, &records[..RECORD * count], &pairs[..PAIR * count]);
         words += compare_words(&mut random, &case.text);
     }
-    read.report(reasons(), 10_000);
+    read.report(reasons().chain([27]), 10_000);
     asked.names.report([0, 17], 10_000);
     asked.finishes.report([0, 17, 19], 10_000);
+    asked.lists.report([0, 17, 23], 10_000);
     damaged.names.report([0, 17, 18], 10_000);
     damaged.finishes.report([0, 17, 18, 19], 10_000);
+    damaged.lists.report([0, 17, 18, 23], 10_000);
     say(&format!("words: {words} look-ups, no difference"));
 }
 
 /// Questions to a table that was spoiled after reading, and to one that no reading gave.
-fn damaged_tables(random: &mut Random, asked: &mut Questions, text: &[u8], records: &[u32]) {
+fn damaged_tables(random: &mut Random, asked: &mut Questions, text: &[u8], records: &[u32], pairs: &[u32]) {
     // A long table is spoiled now and then: its questions take long
     if records.len() < 1000 || random.percent(5) {
         let mut spoiled = records.to_vec();
@@ -242,21 +279,23 @@ fn damaged_tables(random: &mut Random, asked: &mut Questions, text: &[u8], recor
         scenes::spoil_table(random, &mut spoiled);
         let text = &text[..text.len() - random.below(text.len().min(20) + 1)];
         let count = stated_count(random, records.len() / RECORD);
-        asked.ask_all(text, &spoiled, count);
+        let pairs = &pairs[..pairs.len() - usize::from(!pairs.is_empty() && random.percent(5))];
+        asked.ask_all(text, &spoiled, pairs, count);
     }
     let made = scenes::table(random, text.len().min(50));
+    let pairs = scenes::pair_table(random, &made);
     let count = stated_count(random, made.len() / RECORD);
-    asked.ask_all(&text[..text.len().min(50)], &made, count);
+    asked.ask_all(&text[..text.len().min(50)], &made, &pairs, count);
 }
 
 /// A text of so many primitives.
 fn full(primitives: usize) -> Vec<u8> {
-    format!("void mixfunc a 4 a b c d 0 0\n{}", "a alias a a\n".repeat(primitives - 1)).into_bytes()
+    format!("void mixfunc a 4 void void c d 0 0\n{}", "a alias a a\n".repeat(primitives - 1)).into_bytes()
 }
 
 /// A text with the largest tables that a reading can use.
 fn with_most(text: Vec<u8>) -> scenes::Case {
-    scenes::Case { mode: 0, text, records: RECORD * scene::MOST_RECORDS, reals: scene::MOST_REALS }
+    scenes::Case::new(0, text, RECORD * scene::MOST_RECORDS, scene::MOST_REALS)
 }
 
 #[test]
@@ -272,26 +311,170 @@ fn limits_are_met_alike() {
         assert_eq!(reason(format!("void light {} 0 0 3 1 1 1", "n".repeat(len)).into_bytes()), expected);
     }
     for (reals, expected) in [(4_096, 0), (4_097, 13)] {
-        assert_eq!(reason(format!("void mixfunc m 4 a b c d 0 {reals}{}", " 1".repeat(reals)).into_bytes()), expected);
+        let text = format!("void mixfunc m 4 void void c d 0 {reals}{}", " 1".repeat(reals));
+        assert_eq!(reason(text.into_bytes()), expected);
     }
     // Every small table, for a scene of three records and eleven reals
     let text = b"void glow g 0 0 4 1 1 1 0\nvoid light l 0 0 3 1 2 3\ng sphere s 0 0 4 0 0 0 1\n";
     for records in 0..=50 {
         for reals in 0..=15 {
-            compare_reading(&scenes::Case { mode: 0, text: text.to_vec(), records, reals });
+            compare_reading(&scenes::Case::new(0, text.to_vec(), records, reals));
         }
     }
     // Every beginning of a scene, and every byte in it changed
     for end in 0..=text.len() {
-        compare_reading(&scenes::Case { mode: 0, text: text[..end].to_vec(), records: 3 * RECORD, reals: 11 });
+        compare_reading(&scenes::Case::new(0, text[..end].to_vec(), 3 * RECORD, 11));
     }
     for at in 0..text.len() {
         for byte in 0..=255 {
             let mut text = text.to_vec();
             text[at] = byte;
-            compare_reading(&scenes::Case { mode: 0, text, records: 3 * RECORD, reals: 11 });
+            compare_reading(&scenes::Case::new(0, text, 3 * RECORD, 11));
         }
     }
+}
+
+/// A short pair table is refused after a long text alone, at every size of the records.
+#[test]
+fn short_pairs_are_refused_alike() {
+    let reason = |text: &[u8], records, pairs| {
+        let case = scenes::Case { mode: 0, text: text.to_vec(), records, reals: 3, pairs };
+        compare_reading(&case).0.reason
+    };
+    for records in 0..=4 * RECORD {
+        for pairs in 0..=10 {
+            let short = pairs < 2 * (records / RECORD);
+            assert_eq!(reason(b"!", records, pairs), if short { 27 } else { 4 });
+            assert_eq!(reason(&[b' '; scene::MOST_BYTES + 1], records, pairs), 1);
+            reason(&light(b"void", b"a"), records, pairs);
+        }
+    }
+    for records in [1_023, 1_024, 1_025, 1_100].map(|rows| RECORD * rows) {
+        for pairs in [2_045, 2_046, 2_047, 2_048, 2_049, 2_200] {
+            let short = pairs < 2 * (records / RECORD).min(scene::MOST_RECORDS);
+            assert_eq!(reason(b"", records, pairs), if short { 27 } else { 0 });
+        }
+    }
+    // An index that is short too is refused first
+    let case = |text: &[u8], pairs| scenes::Case { pairs, ..scenes::Case::new(0, text.to_vec(), RECORD, 3) };
+    let reasons = |pairs, entries| [&b"!"[..], b""].map(|text| compare_indexed(&case(text, pairs), entries).reason);
+    assert_eq!(
+        [(1, INDEX - 1), (1, INDEX), (2, INDEX)].map(|(pairs, entries)| reasons(pairs, entries)),
+        [[24, 24], [27, 27], [4, 0]]
+    );
+}
+
+// ---- mixtures
+
+#[test]
+fn mixtures_are_resolved_alike() {
+    let mut random = random(17);
+    let mut read = Tally::new("scenes of mixtures");
+    let mut indexed = Tally::new("scenes of mixtures indexed");
+    let mut asked = Questions::new("names", "finishes", "lists in scenes of mixtures");
+    for _ in 0..scene_count() / 4 {
+        let case = scenes::mixtures(&mut random);
+        let (answer, records, pairs) = compare_reading(&case);
+        read.add(answer.reason);
+        asked.ask_all(&case.text, &records, &pairs, answer.answer[1]);
+        indexed.add(compare_indexed(&case, INDEX).reason);
+    }
+    read.report([0, 6, 13, 25, 26, 27], 4_000);
+    indexed.report([0, 6, 13, 25, 26, 27], 4_000);
+    asked.lists.report([0, 17, 23], 10_000);
+}
+
+/// Tables that no reading gave, of which most can be walked but for one number.
+#[test]
+fn tables_are_listed_alike() {
+    let mut random = random(18);
+    let mut asked = Questions::new("names", "finishes", "lists in made tables");
+    for _ in 0..scene_count() / 2 {
+        let (records, pairs) = scenes::mixture_tables(&mut random);
+        let rows = records.len() / RECORD;
+        let count = if random.percent(80) { rows } else { stated_count(&mut random, rows) };
+        asked.ask_all(b"n", &records, &pairs, count);
+    }
+    asked.lists.report([0, 17, 18, 23], 10_000);
+}
+
+/// Two materials, a mixture of both under a third, and a surface under that.
+const MIXED: &[u8] = b"void plastic a 0 0 5 1 1 1 0 0\nvoid light b 0 0 3 1 1 1\nvoid glow c 0 0 4 1 1 1 0\n\
+    c mixfunc m 4 a n v f 0 0\nm sphere s 0 0 4 0 0 0 1\nvoid mixfunc n 4 void b v f 0 0\n";
+
+#[test]
+fn each_fault_of_a_table_is_found_alike() {
+    let case = scenes::Case::new(0, MIXED.to_vec(), 6 * RECORD, 20);
+    let (read, records, pairs) = compare_reading(&case);
+    assert_eq!((read.reason, read.answer), (0, [0, 6, 16]));
+    assert_eq!(pairs, [0, 0, 0, 0, 0, 0, 1, 6, 0, 0, 0, 2]);
+    let list = |records: &[u32], pairs: &[u32], count, number, room| {
+        let mut asked = Questions::new("", "", "");
+        asked.shown(records, pairs, count, number, room);
+        mixtures::shown(records, pairs, count, number, room)
+    };
+    for (number, materials) in [(1, &[][..]), (4, &[1, 2, 3]), (5, &[1, 2, 3]), (6, &[2])] {
+        assert_eq!(list(&records, &pairs, 6, number, 3), Ok(materials.to_vec()));
+    }
+    assert_eq!(list(&records, &pairs, 6, 5, 2), Err(23));
+    assert_eq!([0, 7, usize::MAX].map(|number| list(&records, &pairs, 6, number, 3)), [(); 3].map(|()| Err(17)));
+    assert_eq!([7, 1_025, usize::MAX].map(|count| list(&records, &pairs, count, 5, 3)), [(); 3].map(|()| Err(18)));
+    assert_eq!(list(&records, &pairs[..11], 6, 0, 3), Err(18));
+    assert_eq!(list(&records, &pairs[..11], 5, 5, 3), Err(18)); // a side above the count
+    assert_eq!(list(&records, &pairs[..6], 3, 3, 0), Ok(Vec::new()));
+    // A type of none, or a surface's where a modifier or a side leads to; then a modifier to itself, above, and to a surface
+    let types = [(0, 0), (0, 26), (2 * RECORD, 1), (0, 9)];
+    let modifiers = [(1, 1), (RECORD + 1, 3), (5 * RECORD + 1, 5), (5 * RECORD + 1, u32::MAX)];
+    for (at, number) in types.into_iter().chain(modifiers) {
+        let mut spoiled = records.clone();
+        spoiled[at] = number;
+        assert_eq!(list(&spoiled, &pairs, 6, 5, 0), Err(18), "{number} at {at}");
+    }
+    // Sides: of a material, of a surface, above the count, to a surface, to itself, to what leads back, by a material's modifier too
+    for (at, number) in [(0, 2), (9, 1), (6, 7), (7, u32::MAX), (6, 5), (6, 4), (10, 4), (11, 6)] {
+        let mut spoiled = pairs.clone();
+        spoiled[at] = number;
+        assert_eq!(list(&records, &spoiled, 6, 5, 0), Err(18), "{number} at {at}");
+    }
+    let (mut under, mut over) = (records.clone(), pairs.clone());
+    under[5 * RECORD] = 15;
+    under[5 * RECORD + 1] = 4;
+    over[11] = 0;
+    assert_eq!(list(&under, &over, 6, 1, 0), Err(18));
+}
+
+/// Sides that lead from each mixture to the next one, and from the last elsewhere.
+fn chain(count: usize, last: &str) -> Vec<u8> {
+    let line = |n: usize| {
+        let side = if n == count { last.to_owned() } else { format!("m{}", n + 1) };
+        format!("void mixfunc m{n} 4 {side} {side} v f 0 0\n")
+    };
+    (1..=count).map(line).collect::<String>().into_bytes()
+}
+
+#[test]
+fn long_chains_of_mixtures_are_alike() {
+    let most = scene::MOST_RECORDS;
+    let mut asked = Questions::new("", "", "lists at the ends of long chains");
+    let (read, records, pairs) = compare_reading(&with_most([chain(most - 1, "end"), light(b"void", b"end")].concat()));
+    assert_eq!((read.reason, read.answer), (0, [0, most, 3]));
+    for number in [1, 2, most - 1, most] {
+        asked.list(&records, &pairs, most, number);
+    }
+    asked.lists.report([0, 23], 1);
+    // Refused at the name of the lowest on the loop: the whole chain, its end, or its last alone
+    for lowest in ["m1", "m700", "m1024"] {
+        let case = with_most(chain(most, lowest));
+        let name = format!("mixfunc {lowest} ");
+        let place = case.text.windows(name.len()).position(|words| words == name.as_bytes()).expect("it is there");
+        let (read, ..) = compare_reading(&case);
+        assert_eq!((read.reason, read.answer), (26, [place + "mixfunc ".len(), 0, 0]), "{lowest}");
+        assert_eq!(compare_indexed(&case, INDEX).reason, 26);
+        assert_eq!(reason_of(compare_tuned(&case)), 26);
+    }
+    // A name that no one has is found first
+    let (read, ..) = compare_reading(&with_most([chain(700, "m1"), chain(1, "nowhere")].concat()));
+    assert_eq!(read.reason, 25);
 }
 
 // ---- scenes read with an index
@@ -301,9 +484,10 @@ fn expected_indexed(
     text: &[u8],
     records: &mut [u32],
     reals: &mut [f64],
+    pairs: &mut [u32],
     index: &mut [u32],
 ) -> (u32, [usize; 4]) {
-    match index::read_indexed(archive, text, records, reals, index) {
+    match index::read_indexed(archive, text, records, reals, pairs, index) {
         Ok((counts, looked)) => (0, [0, counts.primitives, counts.reals, looked]),
         Err(refused) => (refused.reason, [refused.place, 0, 0, 0]),
     }
@@ -321,20 +505,24 @@ fn compare_indexed(case: &scenes::Case, entries: usize) -> IndexedRead {
     let (filling, real_filling) = (0xdead_beef, -1234.5);
     let mut records = Lent::new(case.records, filling);
     let mut reals = Lent::new(case.reals, real_filling);
+    let mut pairs = Lent::new(case.pairs, filling);
     let mut index = Lent::new(entries, filling);
     // Of the entries' numbers some are such as a reading gives
     index.table().iter_mut().step_by(2).zip(1..).for_each(|(entry, number)| *entry = number);
     let text = case.text.clone();
-    let (reason, answer) = raw::read_indexed(case.mode, &text, records.table(), reals.table(), index.table());
+    let (reason, answer) =
+        raw::read_indexed(case.mode, &text, records.table(), reals.table(), pairs.table(), index.table());
 
     let mut expected_records = vec![1; case.records];
     let mut expected_reals = vec![1.0; case.reals];
+    let mut expected_pairs = vec![1; case.pairs];
     let mut expected_index = vec![1; entries];
     let expected = expected_indexed(
         case.is_archive(),
         &case.text,
         &mut expected_records,
         &mut expected_reals,
+        &mut expected_pairs,
         &mut expected_index,
     );
 
@@ -342,17 +530,21 @@ fn compare_indexed(case: &scenes::Case, entries: usize) -> IndexedRead {
     assert_eq!((reason, answer), expected, "{}", shown());
     assert!(records.table() == expected_records, "records of {}", shown());
     assert!(bits(reals.table()).eq(bits(&expected_reals)), "reals of {}", shown());
+    assert!(pairs.table() == expected_pairs, "pairs of {}", shown());
     assert!(index.table() == expected_index, "index of {}", shown());
     assert!(text == case.text, "the text was written: {}", shown());
     assert!(records.margins_are(filling), "written outside the records: {}", shown());
     assert!(reals.margins_are(real_filling), "written outside the reals: {}", shown());
+    assert!(pairs.margins_are(filling), "written outside the pairs: {}", shown());
     assert!(index.margins_are(filling), "written outside the index: {}", shown());
     if entries >= INDEX {
         let (mut plain_records, mut plain_reals) = (vec![1; case.records], vec![1.0; case.reals]);
-        let plain = raw::read(case.mode, &text, &mut plain_records, &mut plain_reals);
+        let mut plain_pairs = vec![1; case.pairs];
+        let plain = raw::read(case.mode, &text, &mut plain_records, &mut plain_reals, &mut plain_pairs);
         assert_eq!((reason, [answer[0], answer[1], answer[2]]), plain, "{}", shown());
         assert!(records.table() == plain_records, "records of both calls for {}", shown());
         assert!(bits(reals.table()).eq(bits(&plain_reals)), "reals of both calls for {}", shown());
+        assert!(pairs.table() == plain_pairs, "pairs of both calls for {}", shown());
     }
     IndexedRead { reason, answer, index: expected_index }
 }
@@ -376,8 +568,8 @@ fn scenes_are_indexed_alike() {
         compare_indexes(&mut any, scenes::case(&mut random));
         compare_indexes(&mut colliding, scenes::colliding(&mut random));
     }
-    any.report(reasons().chain([24]), 40_000);
-    colliding.report([0, 24], 10_000);
+    any.report(reasons().chain([24, 27]), 40_000);
+    colliding.report([0, 24, 26, 27], 10_000);
 }
 
 /// A light of a name, under a modifier.
@@ -429,7 +621,7 @@ fn a_short_index_is_refused_after_a_long_text_alone() {
     }
     for (records, reals) in [(0, 0), (1, 0), (RECORD, 3), (RECORD + 1, 2)] {
         for entries in [0, INDEX - 1, INDEX, 3 * INDEX] {
-            compare_indexed(&scenes::Case { mode: 0, text: light(b"void", b"a"), records, reals }, entries);
+            compare_indexed(&scenes::Case::new(0, light(b"void", b"a"), records, reals), entries);
         }
     }
 }
@@ -439,12 +631,15 @@ fn a_short_index_is_refused_after_a_long_text_alone() {
 /// Reads a scene by both readers of the reference, into tables that hold something, and compares all that comes of it.
 fn compare_tuned(case: &scenes::Case) -> Result<Counts, Refused> {
     let (mut records, mut reals) = (vec![0xdead_beef; case.records], vec![f64::NAN; case.reals]);
-    let tuned = tuned::read(case.is_archive(), &case.text, &mut records, &mut reals);
+    let (mut pairs, mut expected_pairs) = (vec![0xdead_beef; case.pairs], vec![1; case.pairs]);
+    let tuned = tuned::read(case.is_archive(), &case.text, &mut records, &mut reals, &mut pairs);
     let (mut expected_records, mut expected_reals) = (vec![1; case.records], vec![1.0; case.reals]);
-    let expected = scene::read(case.is_archive(), &case.text, &mut expected_records, &mut expected_reals);
+    let expected =
+        scene::read(case.is_archive(), &case.text, &mut expected_records, &mut expected_reals, &mut expected_pairs);
     assert_eq!(tuned, expected, "{}", shown(case));
     assert!(records == expected_records, "records of {}", shown(case));
     assert!(bits(&reals).eq(bits(&expected_reals)), "reals of {}", shown(case));
+    assert!(pairs == expected_pairs, "pairs of {}", shown(case));
     expected
 }
 
@@ -454,18 +649,18 @@ fn reason_of(answer: Result<Counts, Refused>) -> u32 {
 
 /// A scene in both modes, in the lent tables; if it is accepted, also in tables just large enough, one entry too short, and empty.
 fn compare_tuned_in_tables(tally: &mut Tally, case: scenes::Case) {
-    let scenes::Case { text, records, reals, .. } = case;
+    let scenes::Case { text, records, reals, pairs, .. } = case;
     for mode in [0, 1] {
-        let mut compare = |records, reals| {
-            let answer = compare_tuned(&scenes::Case { mode, text: text.clone(), records, reals });
+        let mut compare = |records, reals, pairs| {
+            let answer = compare_tuned(&scenes::Case { mode, text: text.clone(), records, reals, pairs });
             tally.add(reason_of(answer));
             answer
         };
-        if let Ok(used) = compare(records, reals) {
+        if let Ok(used) = compare(records, reals, pairs) {
             let (records, reals) = (RECORD * used.primitives, used.reals);
-            assert_eq!(compare(records, reals), Ok(used), "the room is enough");
+            assert_eq!(compare(records, reals, pairs_needed(records)), Ok(used), "the room is enough");
             for (records, reals) in [(records.saturating_sub(1), reals), (records, reals.saturating_sub(1)), (0, 0)] {
-                let _ = compare(records, reals);
+                let _ = compare(records, reals, pairs);
             }
         }
     }
@@ -475,19 +670,24 @@ fn compare_tuned_in_tables(tally: &mut Tally, case: scenes::Case) {
 fn the_tuned_reader_reads_alike() {
     let mut random = random(11);
     let mut any = Tally::new("scenes by the tuned reader");
+    let mut mixed = Tally::new("scenes of mixtures by the tuned reader");
     let mut colliding = Tally::new("scenes by the tuned reader whose names collide");
     for _ in 0..scene_count() / 2 {
         compare_tuned_in_tables(&mut any, scenes::case(&mut random));
     }
     for _ in 0..scene_count() / 8 {
+        compare_tuned_in_tables(&mut mixed, scenes::mixtures(&mut random));
+    }
+    for _ in 0..scene_count() / 8 {
         compare_tuned_in_tables(&mut colliding, scenes::colliding(&mut random));
     }
-    any.report(reasons(), 10_000);
+    any.report(reasons().chain([27]), 10_000);
+    mixed.report([0, 6, 13, 25, 26, 27], 10_000);
     colliding.report([0, 6, 13], 10_000);
 }
 
 /// All types, an alias and a comment.
-const ALL_TYPES: &[u8] = b"# all\nvoid mixfunc m 4 a b c d 0 1 .5\nm alias t m\n\
+const ALL_TYPES: &[u8] = b"# all\nvoid mixfunc m 4 l p c d 0 1 .5\nm alias t m\n\
     t source s 0 0 4 0 0 -1 .5\nt sphere s 0 0 4 0 0 0 1\nt bubble s 0 0 4 0 0 0 1e0\nt polygon s 0 0 9 1 2 3 4 5 6 7 8 9\n\
     t cone s 0 0 8 0 0 0 0 0 1 0 1\nt cup s 0 0 8 0 0 0 0 0 1 1 0\nt cylinder s 0 0 7 0 0 0 0 0 1 .5\n\
     t tube s 0 0 7 0 0 0 0 0 1 .5\nt ring s 0 0 8 0 0 0 0 0 1 0 1\nvoid light l 0 0 3 1 1 1\nvoid illum i 1 m 0 3 1 1 1\n\
@@ -503,10 +703,7 @@ fn the_tuned_reader_meets_limits_alike() {
     assert_eq!([full(1_024), full(1_025)].map(reason), [0, 6]);
     assert_eq!([65_536, 65_537].map(|len| reason(vec![b'#'; len])), [0, 1]);
     assert_eq!([64, 65].map(|len| reason(light(b"void", &vec![b'n'; len]))), [0, 3]);
-    let compare = |text: &[u8]| {
-        let case = scenes::Case { mode: 1, text: text.to_vec(), records: 28 * RECORD, reals: 150 };
-        reason_of(compare_tuned(&case))
-    };
+    let compare = |text: &[u8]| reason_of(compare_tuned(&scenes::Case::new(1, text.to_vec(), 28 * RECORD, 150)));
     assert_eq!(compare(ALL_TYPES), 0);
     // Every beginning, and every byte changed
     for end in 0..ALL_TYPES.len() {
@@ -574,8 +771,8 @@ fn the_tuned_reader_reads_numerals_alike() {
         if random.percent(5) {
             word.push(*random.pick(b" \n.e0x\x7f"));
         }
-        let text = [b"void mixfunc m 4 a b c d 0 1 ", word.as_slice()].concat();
-        tally.add(reason_of(compare_tuned(&scenes::Case { mode: 0, text, records: RECORD, reals: 1 })));
+        let text = [b"void mixfunc m 4 void void c d 0 1 ", word.as_slice()].concat();
+        tally.add(reason_of(compare_tuned(&scenes::Case::new(0, text, RECORD, 1))));
     }
     tally.report([0, 2, 3, 14, 15], 10_000);
 }
@@ -883,10 +1080,12 @@ fn tampered(random: &mut Random, records: &[u32], reals: &[f64]) -> (Vec<u32>, V
     (records, reals)
 }
 
-/// The tidy text of a scene reads back as the same table but for places and lines, and is its own tidy text.
-fn read_back(mode: u32, tidy: &[u8], records: &[u32], reals: &[f64]) {
+/// The tidy text of a scene reads back as the same tables but for places and lines, and is its own tidy text.
+fn read_back(mode: u32, tidy: &[u8], records: &[u32], reals: &[f64], pairs: &[u32]) {
     let (mut again, mut doubles) = (vec![1; records.len()], vec![1.0; reals.len()]);
-    assert_eq!(raw::read(mode, tidy, &mut again, &mut doubles).0, 0, "{:?}", String::from_utf8_lossy(tidy));
+    let mut sides = vec![1; pairs.len()];
+    let (reason, _) = raw::read(mode, tidy, &mut again, &mut doubles, &mut sides);
+    assert!(reason == 0 && sides == pairs, "{reason}: {:?}", String::from_utf8_lossy(tidy));
     let but_places = |records: &[u32]| -> Vec<u32> {
         records
             .iter()
@@ -905,7 +1104,8 @@ fn scenes_are_written_alike() {
     for _ in 0..scene_count() / 4 {
         let case = scenes::case(&mut random);
         let (mut records, mut reals) = (vec![1; case.records], vec![1.0; case.reals]);
-        let read = expected_read(case.is_archive(), &case.text, &mut records, &mut reals);
+        let mut pairs = vec![1; pairs_needed(case.records)];
+        let read = expected_read(case.is_archive(), &case.text, &mut records, &mut reals, &mut pairs);
         let enough = case.text.len() + 1 + random.below(40);
         let (reason, tidy) = compare_writing(case.mode, &case.text, &records, &reals, enough);
         tally.add(reason);
@@ -915,7 +1115,7 @@ fn scenes_are_written_alike() {
             let whole = (&records[..RECORD * primitives], &reals[..used]);
             assert_eq!(compare_writing(case.mode, &case.text, whole.0, whole.1, tidy.len()), (0, tidy.clone()));
             if tidy.len() <= scene::MOST_BYTES {
-                read_back(case.mode, &tidy, &records, &reals);
+                read_back(case.mode, &tidy, &records, &reals, &pairs);
             }
             for room in [tidy.len().saturating_sub(1), random.below(tidy.len() + 1), 0] {
                 tally.add(compare_writing(case.mode, &case.text, &records, &reals, room).0);
@@ -930,11 +1130,11 @@ fn scenes_are_written_alike() {
 /// The longest tidy text: words with one blank between them up to the last byte of the longest text, and a line end more.
 #[test]
 fn the_longest_tidy_text_is_written_alike() {
-    let strings = 32_756;
-    let text = format!("void mixfunc m {strings}{} 0 0", " s".repeat(strings)).into_bytes();
+    let strings = 32_753;
+    let text = format!("void mixfunc m {strings} void void{} 0 0", " s".repeat(strings - 2)).into_bytes();
     assert_eq!(text.len(), scene::MOST_BYTES);
     let (mut records, mut reals) = ([1; RECORD], [1.0; 1]);
-    assert_eq!(raw::read(0, &text, &mut records, &mut reals).0, 0);
+    assert_eq!(raw::read(0, &text, &mut records, &mut reals, &mut [1; PAIR]).0, 0);
     for (room, expected) in [(scene::MOST_BYTES, 23), (scene::MOST_BYTES + 1, 0), (scene::MOST_BYTES + 2, 0)] {
         assert_eq!(compare_writing(0, &text, &records, &reals, room).0, expected);
     }
@@ -977,9 +1177,9 @@ fn numerals_are_read_alike() {
     let mut tally = Tally::new("numerals");
     for _ in 0..float_count() {
         let word = numerals::any(&mut random);
-        let text = format!("void mixfunc m 4 a b c d 0 1 {word}");
+        let text = format!("void mixfunc m 4 void void c d 0 1 {word}");
         let (mut records, mut reals) = ([7; RECORD], [7.0]);
-        let (reason, _) = raw::read(0, text.as_bytes(), &mut records, &mut reals);
+        let (reason, _) = raw::read(0, text.as_bytes(), &mut records, &mut reals, &mut [7; PAIR]);
         match scene::numeral(word.as_bytes()) {
             Ok(value) => {
                 assert_eq!((reason, reals[0].to_bits()), (0, value.to_bits()), "{word}");

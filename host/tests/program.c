@@ -1,5 +1,5 @@
-/* A host program in C: reads a small scene, and prints its names, its finishes, its index, what is new in a later save, its tidy
- * text and a few float answers. */
+/* A host program in C: reads a small scene, and prints its names, its finishes, its index, what its mixtures show, what is new in a
+ * later save, its tidy text and a few float answers. */
 #include "kribbelsteen.h"
 
 #include <math.h>
@@ -10,11 +10,13 @@
 
 static uint32_t records[ROOM * KRIBBELSTEEN_RECORD];
 static double reals[32];
+static uint32_t pairs[ROOM * KRIBBELSTEEN_PAIR];
 
 static void print_scene(uint32_t mode, const char *scene) {
     const uint8_t *text = (const uint8_t *)scene;
     size_t len = strlen(scene), answer[3], name[2], finish[2], number;
-    uint32_t reason = kribbelsteen_read(mode, text, len, records, ROOM * KRIBBELSTEEN_RECORD, reals, 32, answer);
+    uint32_t reason = kribbelsteen_read(mode, text, len, records, ROOM * KRIBBELSTEEN_RECORD, reals, 32, pairs,
+                                        ROOM * KRIBBELSTEEN_PAIR, answer);
     if (reason != KRIBBELSTEEN_ACCEPTED) {
         printf("refused=%u place=%zu\n", (unsigned)reason, answer[0]);
         return;
@@ -40,13 +42,34 @@ static void print_index(const char *scene, size_t entries) {
     uint32_t reason;
     index[KRIBBELSTEEN_INDEX] = 9;
     reason = kribbelsteen_read_indexed(KRIBBELSTEEN_NEW, (const uint8_t *)scene, strlen(scene), records, ROOM * KRIBBELSTEEN_RECORD,
-                                       reals, 32, index, entries, answer);
+                                       reals, 32, pairs, ROOM * KRIBBELSTEEN_PAIR, index, entries, answer);
     printf("indexed=%u place=%zu primitives=%zu reals=%zu looked=%zu\n", (unsigned)reason, answer[0], answer[1], answer[2],
            answer[3]);
     for (at = 0; at < entries; at++) {
         if (index[at] != 0)
             printf("entry %zu: %u\n", at, (unsigned)index[at]);
     }
+}
+
+static void print_shown(const char *scene, size_t room, size_t pair_room) {
+    uint32_t list[ROOM];
+    size_t counts[3], listed[1], number, at;
+    uint32_t reason = kribbelsteen_read(KRIBBELSTEEN_NEW, (const uint8_t *)scene, strlen(scene), records, ROOM * KRIBBELSTEEN_RECORD,
+                                        reals, 32, pairs, pair_room, counts);
+    printf("mixed=%u place=%zu\n", (unsigned)reason, counts[0]);
+    for (number = 1; number <= counts[1]; number++) {
+        const uint32_t *pair = pairs + KRIBBELSTEEN_PAIR * (number - 1);
+        reason = kribbelsteen_shown(records, ROOM * KRIBBELSTEEN_RECORD, pairs, pair_room, counts[1], number, list, room, listed);
+        printf("no=%zu pair=%u,%u listed=%u %zu:", number, (unsigned)pair[KRIBBELSTEEN_FOREGROUND],
+               (unsigned)pair[KRIBBELSTEEN_BACKGROUND], (unsigned)reason, listed[0]);
+        for (at = 0; at < room; at++)
+            printf(" %u", (unsigned)list[at]);
+        printf("\n");
+    }
+    reason = kribbelsteen_shown(records, ROOM * KRIBBELSTEEN_RECORD, pairs, pair_room, counts[1], number, list, room, listed);
+    printf("shown %zu: %u %zu", number, (unsigned)reason, listed[0]);
+    reason = kribbelsteen_shown(records, ROOM * KRIBBELSTEEN_RECORD, pairs, 3, 2, 1, list, room, listed);
+    printf(", pairs short: %u %zu\n", (unsigned)reason, listed[0]);
 }
 
 static uint32_t later_records[ROOM * KRIBBELSTEEN_RECORD];
@@ -87,7 +110,8 @@ static void print_tidy(const char *scene, size_t room) {
     const uint8_t *text = (const uint8_t *)scene;
     size_t len = strlen(scene), counts[3], answer[2];
     uint32_t reason;
-    kribbelsteen_read(KRIBBELSTEEN_NEW, text, len, records, ROOM * KRIBBELSTEEN_RECORD, reals, 32, counts);
+    kribbelsteen_read(KRIBBELSTEEN_NEW, text, len, records, ROOM * KRIBBELSTEEN_RECORD, reals, 32, pairs, ROOM * KRIBBELSTEEN_PAIR,
+                      counts);
     reason = kribbelsteen_write(KRIBBELSTEEN_NEW, text, len, records, ROOM * KRIBBELSTEEN_RECORD, reals, 32, out, room, answer);
     printf("written=%u place=%zu length=%zu\n%.*s", (unsigned)reason, answer[0], answer[1], (int)answer[1], (const char *)out);
     reals[31] = -0.0;
@@ -155,7 +179,8 @@ static void print_screen(const char *scene) {
     const double ray[6] = {0.5, 0.5, -5, 0, 0, 2};
     double answer[1];
     size_t counts[3], number;
-    kribbelsteen_read(KRIBBELSTEEN_NEW, (const uint8_t *)scene, strlen(scene), records, ROOM * KRIBBELSTEEN_RECORD, reals, 32, counts);
+    kribbelsteen_read(KRIBBELSTEEN_NEW, (const uint8_t *)scene, strlen(scene), records, ROOM * KRIBBELSTEEN_RECORD, reals, 32, pairs,
+                      ROOM * KRIBBELSTEEN_PAIR, counts);
     for (number = 1; number <= counts[1] + 1; number++) {
         uint32_t kind = kribbelsteen_polygon_in_table(ray, records, ROOM * KRIBBELSTEEN_RECORD, counts[1], number, reals, 32, answer);
         printf("screen %zu: %u %g", number, (unsigned)kind, answer[0]);
@@ -173,6 +198,12 @@ int main(void) {
     const char *later = "void plastic wall 0 0 5 .5 .5 .5 0 0\n"
                         "wall sphere lamp 0 0 4 0 0 0 1\n"
                         "void light bulb 0 0 3 1 1 1\n";
+    const char *mixed = "void plastic oak 0 0 5 .5 .4 .2 0 0\n"
+                        "oak mixfunc inlay 4 void ash v f.cal 0 0\n"
+                        "void alias border inlay\n"
+                        "border sphere knob 0 0 4 0 0 0 1\n"
+                        "inlay sphere foot 0 0 4 0 0 0 1\n"
+                        "void plastic ash 0 0 5 .7 .6 .5 0 0\n";
     const char *old = "void antimatter hole 1 void 0 0\nhole alias slot hole\n";
     print_scene(KRIBBELSTEEN_NEW, sample);
     print_scene(KRIBBELSTEEN_NEW, "a sphere s 0 0 4 0 0 0 1");
@@ -184,10 +215,16 @@ int main(void) {
     print_index(sample, KRIBBELSTEEN_INDEX + 1);
     print_index(sample, KRIBBELSTEEN_INDEX - 1);
     print_index("void", KRIBBELSTEEN_INDEX);
+    print_shown(mixed, 2, ROOM * KRIBBELSTEEN_PAIR);
+    print_shown(mixed, 1, ROOM * KRIBBELSTEEN_PAIR);
+    print_shown(mixed, 1, ROOM * KRIBBELSTEEN_PAIR - 1);
+    print_shown("void mixfunc m 4 m oak v f 0 0", 0, ROOM * KRIBBELSTEEN_PAIR);
+    print_shown("void mixfunc m 4 m void v f 0 0", 0, ROOM * KRIBBELSTEEN_PAIR);
     print_changes(sample, later);
     print_changes(later, sample);
     print_changes(sample, "!");
     print_changes("void", "!");
+    print_changes("", "void mixfunc m 4 void m v f 0 0");
     print_tidy(sample, 512);
     print_tidy(sample, 16);
     print_words(" void\tlight ");

@@ -5,14 +5,14 @@ use std::f64::consts::SQRT_2;
 
 const SAMPLE: &[u8] = b"void plastic wall 0 0 5 .5 .5 .5 0 0\n\
     void plastic wall 0 0 5 .2 .2 .2 0 0\n\
-    wall mixfunc lamp 4 a b c d 0 4 0 0 0 1\n\
+    wall mixfunc lamp 4 trim void c d 0 4 0 0 0 1\n\
     void alias trim wall\n\
     lamp illum panel 1 trim 0 3 1 2 3\n";
 
 #[test]
 fn a_scene_shows_its_primitives() {
-    let (mut records, mut reals) = ([9; RECORD * 6], [9.0; 20]);
-    let scene = Scene::read(Mode::New, SAMPLE, &mut records, &mut reals).expect("well-formed");
+    let (mut records, mut reals, mut pairs) = ([9; RECORD * 6], [9.0; 20], [9; PAIR * 6]);
+    let scene = Scene::read(Mode::New, SAMPLE, &mut records, &mut reals, &mut pairs).expect("well-formed");
     assert_eq!(scene.counts(), Counts { primitives: 5, reals: 17 });
     let shown: Vec<_> = scene
         .primitives()
@@ -40,8 +40,8 @@ fn a_scene_shows_its_primitives() {
 fn a_surface_hides_no_paint() {
     let text =
         b"void plastic wall 0 0 5 .5 .5 .5 0 0\nvoid sphere wall 0 0 4 0 0 0 1\nwall sphere knob 0 0 4 0 0 0 1\n";
-    let (mut records, mut reals) = ([0; RECORD * 3], [0.0; 13]);
-    let scene = Scene::read(Mode::New, text, &mut records, &mut reals).expect("well-formed");
+    let (mut records, mut reals, mut pairs) = ([0; RECORD * 3], [0.0; 13], [0; PAIR * 3]);
+    let scene = Scene::read(Mode::New, text, &mut records, &mut reals, &mut pairs).expect("well-formed");
     let links: Vec<_> = scene.primitives().map(|p| (p.modifier(), p.next_of_name())).collect();
     assert_eq!(links, [(None, None), (None, None), (Some(1), None)]);
     assert_eq!(scene.finish(3), Ok(Finish { material: Some(1), links: 1 }));
@@ -50,15 +50,15 @@ fn a_surface_hides_no_paint() {
 #[test]
 fn a_name_stands_on_a_line() {
     let text = b"\n# a lamp\nvoid light\n\nlamp 0 0 3 1 1 1 void alias\r\nbulb lamp\n";
-    let (mut records, mut reals) = ([9; RECORD * 2], [9.0; 3]);
-    let scene = Scene::read(Mode::New, text, &mut records, &mut reals).expect("well-formed");
+    let (mut records, mut reals, mut pairs) = ([9; RECORD * 2], [9.0; 3], [9; PAIR * 2]);
+    let scene = Scene::read(Mode::New, text, &mut records, &mut reals, &mut pairs).expect("well-formed");
     assert_eq!(scene.primitives().map(|p| p.line()).collect::<Vec<_>>(), [5, 6]);
 }
 
 #[test]
 fn questions_are_answered_or_refused() {
-    let (mut records, mut reals) = ([0; RECORD * 5], [0.0; 17]);
-    let scene = Scene::read(Mode::New, SAMPLE, &mut records, &mut reals).expect("well-formed");
+    let (mut records, mut reals, mut pairs) = ([0; RECORD * 5], [0.0; 17], [0; PAIR * 5]);
+    let scene = Scene::read(Mode::New, SAMPLE, &mut records, &mut reals, &mut pairs).expect("well-formed");
     assert_eq!(scene.name(3), Ok(&b"lamp"[..]));
     assert_eq!(scene.name(6), Err(Question::NoSuchPrimitive));
     assert_eq!(scene.finish(5), Ok(Finish { material: Some(2), links: 2 }));
@@ -71,39 +71,41 @@ fn questions_are_answered_or_refused() {
 
 #[test]
 fn a_refusal_says_reason_and_place() {
-    let (mut records, mut reals) = ([9; 25], [9.0; 9]);
-    let refusal =
-        read(Mode::New, b"void sphere s 0 0 4 0 0 0 0", &mut records, &mut reals).expect_err("the radius is 0");
+    let (mut records, mut reals, mut pairs) = ([9; 25], [9.0; 9], [9; 5]);
+    let refusal = read(Mode::New, b"void sphere s 0 0 4 0 0 0 0", &mut records, &mut reals, &mut pairs)
+        .expect_err("the radius is 0");
     assert_eq!(refusal, Refusal { reason: Reason::HouseRule, place: 26 });
-    assert_eq!((records, reals), ([0; 25], [0.0; 9]));
+    assert_eq!((records, reals, pairs), ([0; 25], [0.0; 9], [0; 5]));
     let error: Box<dyn std::error::Error> = refusal.into();
     assert_eq!(error.to_string(), "real breaks a house rule (reason 16), at byte 26");
 }
 
 #[test]
 fn a_scene_is_read_with_an_index() {
-    let (mut records, mut reals, mut index) = ([9; RECORD * 6], [9.0; 20], [9; INDEX + 1]);
-    let found = read_indexed(Mode::New, SAMPLE, &mut records, &mut reals, &mut index).expect("well-formed");
-    // Five names are put in, and two modifiers and a target are looked up; no two names have one hash
+    let (mut records, mut reals, mut pairs) = ([9; RECORD * 6], [9.0; 20], [9; PAIR * 6]);
+    let mut index = [9; INDEX + 1];
+    let found = read_indexed(Mode::New, SAMPLE, &mut records, &mut reals, &mut pairs, &mut index).expect("well-formed");
+    // Five names are put in, and two modifiers and a target are looked up, sides uncounted; no two names have one hash
     assert_eq!(found, Indexed { counts: Counts { primitives: 5, reals: 17 }, looked: 8 });
     let mut held: Vec<_> = index.iter().filter(|&&number| number != 0).collect();
     held.sort();
     assert_eq!((held, index[INDEX]), (vec![&2, &3, &4, &5], 0));
-    let scene = Scene::read_indexed(Mode::New, SAMPLE, &mut records, &mut reals, &mut index).expect("well-formed");
+    let scene =
+        Scene::read_indexed(Mode::New, SAMPLE, &mut records, &mut reals, &mut pairs, &mut index).expect("well-formed");
     assert_eq!(scene.finish(5), Ok(Finish { material: Some(2), links: 2 }));
-    let (mut plain, mut doubles) = ([7; RECORD * 6], [7.0; 20]);
-    assert_eq!(read(Mode::New, SAMPLE, &mut plain, &mut doubles), Ok(found.counts));
-    assert_eq!((plain, doubles), (records, reals));
+    let (mut plain, mut doubles, mut sides) = ([7; RECORD * 6], [7.0; 20], [7; PAIR * 6]);
+    assert_eq!(read(Mode::New, SAMPLE, &mut plain, &mut doubles, &mut sides), Ok(found.counts));
+    assert_eq!((plain, doubles, sides), (records, reals, pairs));
 }
 
 #[test]
 fn a_short_index_is_refused() {
-    let (mut records, mut reals, mut index) = ([9; 25], [9.0; 9], [9; INDEX]);
+    let (mut records, mut reals, mut pairs, mut index) = ([9; 25], [9.0; 9], [9; 4], [9; INDEX]);
     let mut refusal = |text: &[u8], entries| {
         let index = &mut index[..entries];
-        let refusal = read_indexed(Mode::New, text, &mut records, &mut reals, index).expect_err("refused");
-        assert!(records == [0; 25] && reals == [0.0; 9] && index.iter().all(|&entry| entry == 0));
-        (records, reals) = ([9; 25], [9.0; 9]);
+        let refusal = read_indexed(Mode::New, text, &mut records, &mut reals, &mut pairs, index).expect_err("refused");
+        assert!(records == [0; 25] && reals == [0.0; 9] && pairs == [0; 4] && index.iter().all(|&entry| entry == 0));
+        (records, reals, pairs) = ([9; 25], [9.0; 9], [9; 4]);
         index.fill(9);
         refusal
     };
@@ -114,18 +116,77 @@ fn a_short_index_is_refused() {
     assert_eq!(refusal(&[b'#'; MOST_BYTES + 1], 0), Refusal { reason: Reason::TextTooLong, place: 0 });
     assert_eq!(refusal(b" !", INDEX), Refusal { reason: Reason::Command, place: 1 });
     assert_eq!(short.to_string(), "index under 2,048 entries (reason 24), at byte 0");
-    let refused = Scene::read_indexed(Mode::New, SAMPLE, &mut records, &mut reals, &mut index[1..]);
-    assert_eq!(refused.expect_err("an entry is missing"), short);
+    let refused = Scene::read_indexed(Mode::New, SAMPLE, &mut records, &mut reals, &mut pairs[1..], &mut index[1..]);
+    assert_eq!(refused.expect_err("an entry of the index is missing, and one of the pairs"), short);
+    let refused = Scene::read_indexed(Mode::New, SAMPLE, &mut records, &mut reals, &mut pairs[1..], &mut index);
+    let short = refused.expect_err("an entry of the pairs is missing");
+    assert_eq!(short, Refusal { reason: Reason::PairsTooSmall, place: 0 });
+    assert_eq!(short.to_string(), "pair table under two entries per record (reason 27), at byte 0");
+}
+
+/// A screen of two woods, one of them chosen by a mixture that stands below; and the same mixture by another name.
+const MIXED: &[u8] = b"void plastic oak 0 0 5 .5 .4 .2 0 0\n\
+    oak mixfunc inlay 4 void grain v f.cal 0 0\n\
+    void alias border inlay\n\
+    border polygon screen 0 0 9 0 0 0 1 0 0 0 1 0\n\
+    void mixfunc grain 4 ash oak v f.cal 0 0\n\
+    void plastic ash 0 0 5 .7 .6 .5 0 0\n";
+
+#[test]
+fn a_scene_shows_materials() {
+    let (mut records, mut reals, mut pairs, mut list) = ([9; RECORD * 6], [9.0; 19], [9; PAIR * 6], [9; 4]);
+    let scene = Scene::read(Mode::New, MIXED, &mut records, &mut reals, &mut pairs).expect("well-formed");
+    let inlay = Pair { foreground: None, background: Some(5) };
+    assert_eq!([2, 3].map(|number| scene.pair(number)), [Some(inlay); 2]);
+    assert_eq!(scene.pair(5), Some(Pair { foreground: Some(6), background: Some(1) }));
+    assert_eq!([0, 1, 4, 6, 7].map(|number| scene.pair(number)), [None; 5]);
+    assert_eq!(scene.shown(4, &mut list), Ok(&[1, 6][..]));
+    assert_eq!(list, [1, 6, 0, 0]);
+    assert_eq!(scene.shown(1, &mut list[..0]), Ok(&[][..]));
+    assert_eq!(scene.shown(7, &mut list), Err(Question::NoSuchPrimitive));
+    assert_eq!(scene.shown(4, &mut list[..1]), Err(Question::ListTooShort));
+    assert_eq!(Question::ListTooShort.to_string(), "the list is too short (reason 23)");
+    assert_eq!(Question::ListTooShort.number(), 23);
+    assert_eq!(shown(&records, &pairs, 6, 2, &mut list), Ok(&[1, 6][..]));
+    assert_eq!(shown(&records, &pairs[..11], 6, 2, &mut list), Err(Question::BadTable));
+    assert_eq!(list, [0; 4]);
+    let ((mut a, mut x), (mut b, mut y)) = (([9; RECORD * 6], [9.0; 19]), ([9; RECORD * 6], [9.0; 19]));
+    let saves = Saves::read(Mode::New, MIXED, &mut a, &mut x, MIXED, &mut b, &mut y).expect("well-formed");
+    assert_eq!((saves.left.pair(2), saves.left.shown(4, &mut list)), (None, Err(Question::BadTable)));
+}
+
+#[test]
+fn a_side_is_missing_or_leads_in_a_loop() {
+    let (mut records, mut reals, mut pairs) = ([9; RECORD * 3], [9.0; 5], [9; PAIR * 3]);
+    let mut refusal = |text: &[u8]| {
+        let refusal = read(Mode::New, text, &mut records, &mut reals, &mut pairs).expect_err("refused");
+        assert_eq!((records, reals, pairs), ([0; RECORD * 3], [0.0; 5], [0; PAIR * 3]));
+        refusal
+    };
+    let missing = refusal(b"void mixfunc m 4 m oak v f 0 0");
+    assert_eq!(missing, Refusal { reason: Reason::SideNotDefined, place: 19 });
+    assert_eq!(missing.to_string(), "side of a mixture not defined (reason 25), at byte 19");
+    let looped = refusal(b"void mixfunc m 4 void oak v f 0 0\nm plastic oak 0 0 5 1 1 1 0 0\n");
+    assert_eq!(looped, Refusal { reason: Reason::Loop, place: 13 });
+    assert_eq!(looped.to_string(), "modifiers and sides lead in a loop (reason 26), at byte 13");
+    let text = b"void mixfunc m 4 m void v f 0 0";
+    let refused = Unwritten::Refused(Refusal { reason: Reason::Loop, place: 13 });
+    assert_eq!(write(Mode::New, text, &[0; RECORD], &[], &mut [9; 40]), Err(refused));
+    let ((mut a, mut x), (mut b, mut y)) = (([9; RECORD], [9.0; 1]), ([9; RECORD], [9.0; 1]));
+    let refused = read_both(Mode::New, b"", &mut a, &mut x, text, &mut b, &mut y);
+    let refusal = Refusal { reason: Reason::Loop, place: 13 };
+    assert_eq!(refused, Err(SaveRefusal { side: Side::Right, refusal }));
 }
 
 #[test]
 fn the_archive_reading_accepts_antimatter() {
     let text = b"void antimatter hole 1 void 0 0\nvoid alias slot hole\n";
-    let (mut records, mut reals) = ([9; RECORD * 2], [9.0; 1]);
-    let refusal = read(Mode::New, text, &mut records, &mut reals).expect_err("a new scene has none");
+    let (mut records, mut reals, mut pairs) = ([9; RECORD * 2], [9.0; 1], [9; PAIR * 2]);
+    let refusal = read(Mode::New, text, &mut records, &mut reals, &mut pairs).expect_err("a new scene has none");
     assert_eq!(refusal, Refusal { reason: Reason::RetiredType, place: 5 });
     assert_eq!(refusal.to_string(), "antimatter in a new scene (reason 28), at byte 5");
-    let scene = Scene::read(Mode::Archive, text, &mut records, &mut reals).expect("an old scene may have it");
+    let scene =
+        Scene::read(Mode::Archive, text, &mut records, &mut reals, &mut pairs).expect("an old scene may have it");
     assert_eq!(scene.mode(), Mode::Archive);
     assert!(scene.primitives().all(|p| p.kind() == Type::Antimatter));
     let mut out = [0; 64];
@@ -141,10 +202,10 @@ fn the_archive_reading_accepts_antimatter() {
 
 #[test]
 fn numbers_and_reasons_agree() {
-    for number in (1..=16).filter(|number| *number != 11).chain([24, 28]) {
+    for number in (1..=16).filter(|number| *number != 11).chain(24..=28) {
         assert_eq!(Reason::from_number(number).map(Reason::number), Some(number));
     }
-    assert_eq!([0, 11, 17, 23].map(Reason::from_number), [None; 4]);
+    assert_eq!([0, 11, 17, 23, 29].map(Reason::from_number), [None; 5]);
     for number in 1..=25 {
         let kind = Type::from_number(number).expect("25 types");
         assert_eq!(kind as u32, number);
@@ -197,8 +258,8 @@ fn a_refused_save_is_named() {
 fn a_scene_is_written_out() {
     let text = b"  void light # 0 0 03 1. 1e0 +1 # the name was no comment\nvoid alias trim #";
     let tidy = b"void light #\n0\n0\n3 1. 1e0 +1\nvoid alias trim #\n";
-    let (mut records, mut reals, mut out) = ([9; 35], [9.0; 5], [9; 80]);
-    let scene = Scene::read(Mode::New, text, &mut records, &mut reals).expect("well-formed");
+    let (mut records, mut reals, mut pairs, mut out) = ([9; 35], [9.0; 5], [9; 6], [9; 80]);
+    let scene = Scene::read(Mode::New, text, &mut records, &mut reals, &mut pairs).expect("well-formed");
     assert_eq!(scene.write(&mut out), Ok(&tidy[..]));
     assert!(out[tidy.len()..].iter().all(|&byte| byte == 0));
     assert_eq!(write(Mode::New, text, &records, &reals, &mut out), Ok(&tidy[..]));
@@ -283,8 +344,8 @@ fn rays_hit_polygons() {
     assert_eq!(polygon(&down(f64::NAN, 1.0), &square[..1]), Err(Step::NotFinite));
     assert_eq!(polygon(&down(1.0, 1.0), &square[..2]), Err(Step::OutOfRange));
     assert_eq!(polygon(&down(1.0, 1.0), &[[1.0, 2.0, 3.0]; 3]), Err(Step::OutOfRange));
-    let (mut records, mut reals) = ([9; RECORD * 2], [9.0; 35]);
-    let scene = Scene::read(Mode::New, SCREEN, &mut records, &mut reals).expect("well-formed");
+    let (mut records, mut reals, mut pairs) = ([9; RECORD * 2], [9.0; 35], [9; PAIR * 2]);
+    let scene = Scene::read(Mode::New, SCREEN, &mut records, &mut reals, &mut pairs).expect("well-formed");
     assert_eq!(scene.polygon(&down(0.5, 0.5), 2), Ok(Some(5.0)));
     assert_eq!(scene.polygon(&down(2.0, 1.5), 2), Ok(None));
     assert_eq!(

@@ -13,8 +13,10 @@ use Rattle.numeral_parts.specs.Digits.{digits, isDigit, valueFrom}
 use Rattle.numeral_parts.specs.Parts.{isMantissa, isExponent, before, behind, has, indexOf, isPoint, isMark, isSign, negative, unsigned}
 use Rattle.scene.specs.HouseRules.{breach, breachAt, realAt, isAbove0, isAtLeast0, is0}
 use Rattle.scene.specs.Links.{gives, hits, found, realsUsed}
-use Rattle.scene.specs.Reading.{read, run, statements}
+use Rattle.scene.specs.Reading.{readStatements, run, statements}
 use Rattle.scene.specs.Types.{typeNumber, numberFrom, kindOf, stringsAllowed, realsAllowed}
+use Rattle.graph.specs.Answers.{lowest, lowestLoop}
+use Rattle.sides.specs.Read.{firstUnknown, read}
 use Rattle.steps.specs.Step.{step}
 use Rattle.steps.specs.Vectors.{dot, finiteVector, minus}
 use Rattle.root.specs.Root.{rootOf, rootUnits, wholeRoot}
@@ -26,7 +28,7 @@ use Rattle.fresnel.specs.Fresnel.{fresnelOf, cos2Squared, reflected}
 use Rattle.bench.specs.Sheet.{Row, rows, answer}
 
 pub sheet : map (λ (r : Row). answer (r .question)) rows ≡ map (λ (r : Row). r .expected) rows
-unfolding read run statements gives hits found realsUsed typeNumber numberFrom kindOf stringsAllowed realsAllowed breach breachAt realAt isAbove0 isAtLeast0 is0 same all runs.run isBlank isGood wordFault countOf digits isDigit valueFrom numeralOf wellFormed isMantissa isExponent mantissa exponent before behind has indexOf isPoint isMark isSign negative unsigned coefficient up down inRange nearest numberOf step dot finiteVector minus rootOf rootUnits wholeRoot hitAbove fromCentre solved firstAhead ahead defaultLeast fresnelOf cos2Squared reflected fresnel.coefficient round add sub mul div neg lt le eq
+unfolding read firstUnknown lowestLoop lowest readStatements run statements gives hits found realsUsed typeNumber numberFrom kindOf stringsAllowed realsAllowed breach breachAt realAt isAbove0 isAtLeast0 is0 same all runs.run isBlank isGood wordFault countOf digits isDigit valueFrom numeralOf wellFormed isMantissa isExponent mantissa exponent before behind has indexOf isPoint isMark isSign negative unsigned coefficient up down inRange nearest numberOf step dot finiteVector minus rootOf rootUnits wholeRoot hitAbove fromCentre solved firstAhead ahead defaultLeast fresnelOf cos2Squared reflected fresnel.coefficient round add sub mul div neg lt le eq
 sheet = refl
 
 -- the default least distance is the double that a scene's `0.001` is

@@ -6,9 +6,10 @@ use lib.Ieee.{Float, binary64, round}
 use Rattle.laws.specs.Bytes.{Bytes, bytes}
 use Rattle.numeral.specs.Numeral as numerals
 use Rattle.numeral.specs.Numeral.{numeralOf, value, refusal}
-use Rattle.scene.specs.Reading.{Reading, read, accepted, refused}
+use Rattle.scene.specs.Reading.{Reading, accepted, refused}
 use Rattle.scene.specs.Record.{fullRoom}
 use Rattle.scene.specs.declared.Mode.the-variants.{New}
+use Rattle.sides.specs.Read.{read}
 use Rattle.steps.specs.declared.Vector.{Vector}
 use Rattle.hits.specs.Ahead.{defaultLeast}
 use Rattle.hits.specs.Outcome as hits

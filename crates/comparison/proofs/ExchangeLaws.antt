@@ -10,7 +10,7 @@ use Rattle.scene.proofs.AcceptLaws.{accept-forth}
 use Rattle.scene.proofs.BlockLaws.{Parts, parts, read-turned}
 use Rattle.scene.specs.Block.{share, shift, stands}
 use Rattle.scene.specs.Exchange.{Exchange, Exchanged, exchangeShift}
-use Rattle.scene.specs.Reading.{Entry, statements, accepted, read}
+use Rattle.scene.specs.Reading.{Entry, Reading, accepted, readStatements, statements}
 use Rattle.scene.specs.Record.{width, recordImage, realImage}
 use Rattle.scene.specs.declared.Settings.{Settings}
 use Rattle.scene.specs.Statement.{Statement}
@@ -24,6 +24,9 @@ use Rattle.comparison.specs.Compare.{compared}
 use Rattle.comparison.specs.Exchange.{CompareExchangeLaw, NamesApart, namesOf}
 use Rattle.keys.specs.Key.{times, from, keyOf}
 use Rattle.keys.specs.Rows.{rowsOf, sceneRows}
+use Rattle.sides.proofs.MixedLaws.{resolved, same-reading}
+use Rattle.sides.specs.Exchange.{MixedExchange, MixedExchanged}
+use Rattle.sides.specs.Read.{read}
 
 -- ---- statements that share no name
 
@@ -72,7 +75,7 @@ module _ (r : Settings) (p a b q : Bytes) (es : List Entry) (x : Exchange r p a 
   k : Parts r p a b q es
   k = parts r p a b q es (x .reads) (x .first) (x .second)
 
-  reads′ : read r (p ++ b ++ a ++ q) ≡ accepted es′
+  reads′ : readStatements r (p ++ b ++ a ++ q) ≡ accepted es′
   reads′ = z .renumbers .reads
 
   apart : share (namesOf (k .A)) (namesOf (k .B)) ≡ false
@@ -113,9 +116,25 @@ module _ (r : Settings) (p a b q : Bytes) (es : List Entry) (x : Exchange r p a 
   same-rows : compared (rowsOf (p ++ a ++ b ++ q) es) (rowsOf (p ++ b ++ a ++ q) (z .entries)) ≡ []
   same-rows = compare-renumbered old new (exchangeShift es p a b) keys often rows
 
+-- what holds of the statements of two texts holds of the texts that are accepted
+module _ (r : Settings) (p a b q : Bytes) (es : List Entry) (x : MixedExchange r p a b q es) (shares : NamesApart es p a b) (z : MixedExchanged r p a b q es) where
+  abbrev before : Exchange r p a b q es
+  before = record { reads = resolved r (p ++ a ++ b ++ q) es (x .reads) .reads; first = x .first; second = x .second; independent = x .independent }
+
+  abbrev after : Exchanged r p a b q es
+  after = record { entries = z .entries; renumbers = z .renumbers }
+
+  same-mixed : compared (rowsOf (p ++ a ++ b ++ q) es) (rowsOf (p ++ b ++ a ++ q) (z .entries)) ≡ []
+  same-mixed = same-rows r p a b q es before shares after
+
+  fresh-rows : (text : Bytes) (es′ : List Entry) → read r text ≡ accepted es′ → (n k : ℕ) → sceneRows text (take (length es′ * width) (recordImage text n (read r text))) (realImage k (read r text)) ≡ rowsOf text es′
+  fresh-rows text es′ e n k =
+      ap (λ (y : Reading). sceneRows text (take (length es′ * width) (recordImage text n y)) (realImage k y)) (sym (same-reading r text es′ e))
+      ∙ scene-read r text es′ (resolved r text es′ e .reads) n k
+
   -- also read afresh into tables of any sizes, where those of the records are lent up to the last one
-  pub fresh-exchange : (n k m j : ℕ) → compared (sceneRows (p ++ a ++ b ++ q) (take (length es * width) (recordImage (p ++ a ++ b ++ q) n (read r (p ++ a ++ b ++ q)))) (realImage k (read r (p ++ a ++ b ++ q)))) (sceneRows (p ++ b ++ a ++ q) (take (length es′ * width) (recordImage (p ++ b ++ a ++ q) m (read r (p ++ b ++ a ++ q)))) (realImage j (read r (p ++ b ++ a ++ q)))) ≡ []
-  fresh-exchange n k m j = (λ i. compared (scene-read r (p ++ a ++ b ++ q) es (x .reads) n k i) (scene-read r (p ++ b ++ a ++ q) es′ reads′ m j i)) ∙ same-rows
+  pub fresh-exchange : (n k m j : ℕ) → compared (sceneRows (p ++ a ++ b ++ q) (take (length es * width) (recordImage (p ++ a ++ b ++ q) n (read r (p ++ a ++ b ++ q)))) (realImage k (read r (p ++ a ++ b ++ q)))) (sceneRows (p ++ b ++ a ++ q) (take (length (z .entries) * width) (recordImage (p ++ b ++ a ++ q) m (read r (p ++ b ++ a ++ q)))) (realImage j (read r (p ++ b ++ a ++ q)))) ≡ []
+  fresh-exchange n k m j = (λ i. compared (fresh-rows (p ++ a ++ b ++ q) es (x .reads) n k i) (fresh-rows (p ++ b ++ a ++ q) (z .entries) (z .reads) m j i)) ∙ same-mixed
 
 pub compare-exchange : CompareExchangeLaw
-compare-exchange = same-rows
+compare-exchange = same-mixed

@@ -4,11 +4,12 @@ use mathlib.Core.List.{List, [], _∷_, _++_}
 use mathlib.Core.Path.{_≡_}
 use Rattle.laws.specs.Bytes.{Bytes}
 use Rattle.scene.specs.Block.{share}
-use Rattle.scene.specs.Exchange.{Exchange, Exchanged, statementsIn}
+use Rattle.scene.specs.Exchange.{statementsIn}
 use Rattle.scene.specs.Reading.{Entry}
 use Rattle.scene.specs.Statement.{Statement}
 use Rattle.scene.specs.declared.Settings.{Settings}
 use Rattle.keys.specs.Rows.{rowsOf}
+use Rattle.sides.specs.Exchange.{MixedExchange, MixedExchanged}
 use Rattle.comparison.specs.Compare.{compared}
 
 unfoldable pub namesOf : List Statement → List Bytes
@@ -22,5 +23,5 @@ NamesApart es p a b = share (namesOf (statementsIn es p a)) (namesOf (statements
 -- the old text against the new one: all the same
 abbrev pub CompareExchangeLaw : Type 0
 CompareExchangeLaw =
-    (r : Settings) (p a b q : Bytes) (es : List Entry) → Exchange r p a b q es → NamesApart es p a b
-    → (x : Exchanged r p a b q es) → compared (rowsOf (p ++ a ++ b ++ q) es) (rowsOf (p ++ b ++ a ++ q) (x .entries)) ≡ []
+    (r : Settings) (p a b q : Bytes) (es : List Entry) → MixedExchange r p a b q es → NamesApart es p a b
+    → (x : MixedExchanged r p a b q es) → compared (rowsOf (p ++ a ++ b ++ q) es) (rowsOf (p ++ b ++ a ++ q) (x .entries)) ≡ []

@@ -20,7 +20,7 @@ use Rattle.scene.proofs.ImageLaws.{zero-reals, zero-records}
 use Rattle.scene.specs.HouseRules.{zeroReal}
 use Rattle.scene.specs.Links.{realsUsed}
 use Rattle.scene.specs.Phase.{idle}
-use Rattle.scene.specs.Reading.{run, read, newline, Reading, accepted, statements, refused}
+use Rattle.scene.specs.Reading.{run, readStatements, newline, Reading, accepted, statements, refused}
 use Rattle.scene.specs.Record.{settingsFor, recordsFrom, recordImage, filled, flat, realTable, records, realImage}
 use Rattle.scene.specs.declared.Mode.{Mode}
 use Rattle.scene.specs.declared.Settings.{Settings}
@@ -28,14 +28,14 @@ use Rattle.statement.specs.States.{between}
 use Rattle.statement.specs.declared.State.{State}
 use Rattle.scene.specs.Record as table-of
 
-short-read : (R : Settings) (text : Bytes) → length text ≤ 65536 → read R text ≡ result text R
-unfolding read
+short-read : (R : Settings) (text : Bytes) → length text ≤ 65536 → readStatements R text ≡ result text R
+unfolding readStatements
 short-read R text h = ap (λ (b : Bool). cond b (result text R) (refused 1 0)) (le-leb (length text) 65536 h)
 
 -- the mode, the text, and the tables as they were lent
 module _ (mode : Mode) (text : Bytes) (T₀ : List ℕ) (D₀ : List Float) (X₀ : List ℕ) where
   abbrev reading : Reading
-  reading = read (settingsFor mode (length T₀) (length D₀)) text
+  reading = readStatements (settingsFor mode (length T₀) (length D₀)) text
 
   -- a refusal, with all tables cleared
   module _ (T : List ℕ) (D : List Float) (X : List ℕ) (t : T ≡ replicate (length T₀) 0) (d : D ≡ replicate (length D₀) zeroReal) (x : X ≡ replicate (length X₀) 0) where
@@ -48,13 +48,13 @@ module _ (mode : Mode) (text : Bytes) (T₀ : List ℕ) (D₀ : List Float) (X�
     }
 
     pub too-long : 65536 < length text → Ends mode text T₀ D₀ X₀ (Refused 1 0) T D X
-    unfolding read
+    unfolding readStatements
     too-long h = refuses-with 1 0 (ap (λ (b : Bool). cond b (result text (settingsFor mode (length T₀) (length D₀))) (refused 1 0)) (lt-leb (length text) 65536 h))
 
   -- the tables when reading ends
   module _ (T : List ℕ) (D : List Float) (X : List ℕ) (room : Settings) (s : State) (I : Inv text T D X room s) (o : room .mode ≡ mode) (l : length T ≡ length T₀) (m : length D ≡ length D₀) (h : length X ≡ length X₀) where
     pub reads-as : reading ≡ result text room
-    reads-as = ap (λ (z : Settings). read z text) (sym (I .settings ∙ (λ i. settingsFor (o i) (l i) (m i)))) ∙ short-read room text (I .short)
+    reads-as = ap (λ (z : Settings). readStatements z text) (sym (I .settings ∙ (λ i. settingsFor (o i) (l i) (m i)))) ∙ short-read room text (I .short)
 
     pub ends-accepted : (n k c : ℕ) → Accepts text T D X room n k c → Ends mode text T₀ D₀ X₀ (Accepted n k c) T D X
     unfolding recordImage realImage

@@ -11,7 +11,7 @@ use Rattle.driver.specs.declared.End.the-variants.{Accepted, Refused}
 use Rattle.index.specs.Lent.{lent}
 use Rattle.index.specs.Report.{allLooked}
 use Rattle.laws.specs.Bytes.{Bytes}
-use Rattle.scene.specs.Reading.{Reading, accepted, read, refused, statements}
+use Rattle.scene.specs.Reading.{Reading, accepted, readStatements, refused, statements}
 use Rattle.scene.specs.Record.{realImage, realTable, recordImage, settingsFor}
 use Rattle.scene.specs.declared.Mode.{Mode}
 
@@ -27,7 +27,7 @@ indexAfter size (accepted es) = lent size (statements es)
 
 -- one call: the mode, the tables as they were lent, how it ends, and the tables at exit
 pub record Ends (mode : Mode) (text : Bytes) (records : List ℕ) (reals : List Float) (index : List ℕ) (r : End) (records′ : List ℕ) (reals′ : List Float) (index′ : List ℕ) : Type 0 where
-  pub says : r ≡ ending (length index) (read (settingsFor mode (length records) (length reals)) text)
-  pub table : records′ ≡ recordImage text (length records) (read (settingsFor mode (length records) (length reals)) text)
-  pub doubles : reals′ ≡ realImage (length reals) (read (settingsFor mode (length records) (length reals)) text)
-  pub entries : index′ ≡ indexAfter (length index) (read (settingsFor mode (length records) (length reals)) text)
+  pub says : r ≡ ending (length index) (readStatements (settingsFor mode (length records) (length reals)) text)
+  pub table : records′ ≡ recordImage text (length records) (readStatements (settingsFor mode (length records) (length reals)) text)
+  pub doubles : reals′ ≡ realImage (length reals) (readStatements (settingsFor mode (length records) (length reals)) text)
+  pub entries : index′ ≡ indexAfter (length index) (readStatements (settingsFor mode (length records) (length reals)) text)

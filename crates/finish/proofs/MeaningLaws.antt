@@ -9,18 +9,20 @@ use borrow.Author.Tests.{le-leb, lt-ltb, not-true}
 use lib.ListN.{replicate, length, length-append}
 use Rattle.laws.specs.Bytes.{Bytes, same}
 use Rattle.finish.specs.Meaning.{finishIn}
+use Rattle.sides.proofs.MixedLaws.{resolved, same-reading}
+use Rattle.sides.specs.Read.{read}
 use Rattle.table.proofs.ImageLaws.{image-row, number-fine}
 use Rattle.table.specs.View.{viewOf}
 use Rattle.finish.specs.Walk.{numbersOf, atLink, atType, walkFrom, finishOf}
 use Rattle.finish.specs.declared.Finish.{Finish}
 use Rattle.finish.specs.declared.Finish.the-variants.{Reached, Refused}
 use Rattle.scene.proofs.GivesLaws.{gives-by-type}
-use Rattle.scene.proofs.MeaningLaws.{IsType, Meant, AllMeant, meant-split, accepted-meant, NoSurface, not-surface, alias-type}
+use Rattle.scene.proofs.MeaningLaws.{IsType, NoSurface, not-surface, own-type}
 use Rattle.scene.proofs.PropertyLaws.{accepted-linked}
 use Rattle.scene.proofs.SwapLaws.{Linked, hits-true, linked-split}
 use Rattle.scene.proofs.TellsLaws.{nth-at, split-statements, statements-length}
 use Rattle.scene.specs.Links.{gives, hits, found, head, definition, latest, modifierLink, ownBody, typeIn}
-use Rattle.scene.specs.Reading.{Reading, Entry, statements, modifierTest, accepted, read}
+use Rattle.scene.specs.Reading.{Reading, Entry, statements, modifierTest, accepted, readStatements}
 use Rattle.scene.specs.Record.{flat, settingsFor, Record, recordIn, recordOf, records, recordImage, nth, width}
 use Rattle.scene.specs.declared.Mode.{Mode}
 use Rattle.scene.specs.declared.Settings.{Settings}
@@ -176,28 +178,22 @@ module _ (es : List Entry) (table : List ℕ) (row : (n : ℕ) → recordIn tabl
 
 -- ---- an accepted text
 
--- every statement's type, its target's if it is an alias, is one of the 25
-own-type : (r : Settings) (text : Bytes) (es : List Entry) → read r text ≡ accepted es → (later : List Statement) (s : Statement) (earlier : List Statement) → statements es ≡ later ++ s ∷ earlier → IsType (typeIn (ownBody (s .body) earlier))
-own-type r text es reads later s earlier q = go (s .body) refl
-  where
-    go : (b : Body) → s .body ≡ b → IsType (typeIn (ownBody b earlier))
-    go (primitive t ss rs) b = (subst Meant b ((meant-split later s earlier (subst AllMeant q (accepted-meant r text es reads))) .0)) .0
-    go (alias x) b = let h = subst (λ (z : Body). NoSurface (typeIn (ownBody z earlier))) b (alias-type r text es reads later s earlier q x b) in (omega (arith, h .0), h .1)
-
-module _ (r : Settings) (text : Bytes) (es : List Entry) (reads : read r text ≡ accepted es) (m : ℕ) (l : List Entry) (e : Entry) (x : List Entry) (q : es ≡ l ++ e ∷ x) where
+module _ (r : Settings) (text : Bytes) (es : List Entry) (reads : readStatements r text ≡ accepted es) (m : ℕ) (l : List Entry) (e : Entry) (x : List Entry) (q : es ≡ l ++ e ∷ x) where
   -- the walk from a primitive of the table, with an allowance of all before it, is the walk from its statement
-  walk-means : (left k : ℕ) → length x ≤ left → walkFrom (viewOf (recordImage text m (read r text))) left k (suc (length x)) ≡ finishIn (e .statement .modifier) (statements x) k
-  walk-means left k h = walk-from es (recordImage text m (read r text)) (image-row r text es reads m) (accepted-linked r text es reads) (own-type r text es reads) left k l e x q h
+  walk-means : (left k : ℕ) → length x ≤ left → walkFrom (viewOf (recordImage text m (readStatements r text))) left k (suc (length x)) ≡ finishIn (e .statement .modifier) (statements x) k
+  walk-means left k h = walk-from es (recordImage text m (readStatements r text)) (image-row r text es reads m) (accepted-linked r text es reads) (own-type r text es reads) left k l e x q h
 
   -- the question's answer is the walk from its statement
-  finish-means : (allowance : ℕ) → r .records ≤ 1024 → length x ≤ allowance → finishOf (recordImage text m (read r text)) (length es) (suc (length x)) allowance ≡ finishIn (e .statement .modifier) (statements x) 0
+  finish-means : (allowance : ℕ) → r .records ≤ 1024 → length x ≤ allowance → finishOf (recordImage text m (readStatements r text)) (length es) (suc (length x)) allowance ≡ finishIn (e .statement .modifier) (statements x) 0
   unfolding finishOf
   finish-means allowance c h = rw (number-fine r text es reads m l e x q c) (walk-means allowance 0 h)
 
 -- the same of the tables lent to the reader; it refuses nothing
 module _ (mode : Mode) (text : Bytes) (lent doubles : ℕ) (es : List Entry) (reads : read (settingsFor mode lent doubles) text ≡ accepted es) (l : List Entry) (e : Entry) (x : List Entry) (q : es ≡ l ++ e ∷ x) (allowance : ℕ) (enough : length x ≤ allowance) where
   pub finish-read : finishOf (recordImage text lent (read (settingsFor mode lent doubles) text)) (length es) (suc (length x)) allowance ≡ finishIn (e .statement .modifier) (statements x) 0
-  finish-read = finish-means (settingsFor mode lent doubles) text es reads lent l e x q allowance (min-le-left 1024 (lent / width)) enough
+  finish-read =
+      ap (λ (z : Reading). finishOf (recordImage text lent z) (length es) (suc (length x)) allowance) (sym (same-reading (settingsFor mode lent doubles) text es reads))
+      ∙ finish-means (settingsFor mode lent doubles) text es (resolved (settingsFor mode lent doubles) text es reads .reads) lent l e x q allowance (min-le-left 1024 (lent / width)) enough
 
   pub finish-accepts : numbersOf (finishOf (recordImage text lent (read (settingsFor mode lent doubles) text)) (length es) (suc (length x)) allowance) .reason ≡ 0
   finish-accepts = ap (λ (f : Finish). numbersOf f .reason) finish-read ∙ finish-reaches (e .statement .modifier) (statements x) 0

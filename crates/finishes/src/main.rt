@@ -40,7 +40,7 @@ fn print_finishes(text: &[u8], records: &[u32], count: usize) -> bool {
 fn show(mode: Mode, text: &[u8]) -> bool {
     let mut records = [0u32; table::MOST_NUMBERS];
     let mut reals = [0.0f64; table::MOST_REALS];
-    match reader::read_with_own_index(mode, text, &mut records, &mut reals) {
+    match reader::read_with_own_tables(mode, text, &mut records, &mut reals) {
         Answer::Accepted(primitives, _) => print_finishes(text, &records, primitives),
         Answer::Refused(reason, place) => {
             output::print_refusal(reason, place, line_numbers::line_at(text, place))

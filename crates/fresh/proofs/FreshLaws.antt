@@ -11,11 +11,13 @@ use Rattle.laws.specs.Bytes.{Bytes, same}
 use Rattle.reader.proofs.ReadsLaws.{refused-as, accepted-as}
 use Rattle.reader.specs.Answer.{Reads, readInto}
 use Rattle.reader.specs.declared.Answer.the-variants as reader
-use Rattle.scene.proofs.ImageLaws.{filled-more, used-numbers, used-reals}
+use Rattle.scene.proofs.ImageLaws.{filled-more}
 use Rattle.scene.specs.HouseRules.{zeroReal}
-use Rattle.scene.specs.Reading.{Reading, read}
+use Rattle.scene.specs.Reading.{Reading}
 use Rattle.scene.specs.Record.{entries, filled, flat, realImage, realTable, recordImage, records, width}
 use Rattle.scene.specs.declared.Mode.{Mode}
+use Rattle.sides.proofs.FitLaws.{numbers-fit, reals-fit}
+use Rattle.sides.specs.Read.{read}
 use Rattle.fresh.specs.Fresh.{tablesMatch, freshOf}
 use Rattle.fresh.specs.declared.Fresh.the-variants.{Same, Refused}
 
@@ -32,11 +34,11 @@ module _ (mode : Mode) (table : List ℕ) (doubles : List Float) (text : Bytes) 
 
   same-numbers : filled 0 (length table) (recordImage text (length xs) x) ≡ recordImage text (length table) x
   unfolding recordImage
-  same-numbers = filled-more 0 (length xs) (flat text (records (entries x))) (used-numbers mode (length xs) (length ys) text x refl) (length table) (omega arith)
+  same-numbers = filled-more 0 (length xs) (flat text (records (entries x))) (numbers-fit mode (length xs) (length ys) text x refl) (length table) (omega arith)
 
   same-doubles : filled zeroReal (length doubles) (realImage (length ys) x) ≡ realImage (length doubles) x
   unfolding realImage
-  same-doubles = filled-more zeroReal (length ys) (realTable (entries x)) (used-reals mode (length xs) (length ys) text x refl) (length doubles) (omega arith)
+  same-doubles = filled-more zeroReal (length ys) (realTable (entries x)) (reals-fit mode (length xs) (length ys) text x refl) (length doubles) (omega arith)
 
   pub tables-refused : (n p : ℕ) → Reads mode text xs ys (reader.Refused n p) xs′ ys′ → Refused n p ≡ freshOf text table doubles (readInto mode text table doubles)
   tables-refused n p h = ap (freshOf text table doubles) (sym (refused-as x n p (h .says)) ∙ same-reading)

@@ -64,7 +64,7 @@ pub fn compare(mode: Mode, text: &[u8], records: &[u32], reals: &[f64]) -> Fresh
     let mut fresh_reals = [0.0f64; table::MOST_REALS];
     let n = lexer::least(records.len(), table::MOST_NUMBERS);
     let k = lexer::least(reals.len(), table::MOST_REALS);
-    match reader::read_with_own_index(mode, text, &mut fresh_records[..n], &mut fresh_reals[..k]) {
+    match reader::read_with_own_tables(mode, text, &mut fresh_records[..n], &mut fresh_reals[..k]) {
         Answer::Refused(reason, place) => Fresh::Refused(reason, place),
         Answer::Accepted(count, _) => {
             if same_numbers(records, &fresh_records[..n]) & same_reals(reals, &fresh_reals[..k]) {

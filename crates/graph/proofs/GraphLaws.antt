@@ -7,7 +7,13 @@ use Prim.Native.Nat.{ℕ, _<_, _≤_}
 use borrow.Author.Tests.{le-leb, leb-true, eq-eqb, eqb-true}
 use lib.Dec.{eqb, leb}
 use Rattle.laws.proofs.BoolLaws.{and-left, and-right}
-use Rattle.graph.specs.Graph.{Graph, link, links}
+use Rattle.laws.specs.Bytes.{same}
+use Rattle.scene.specs.Types.{numberFrom, typeNumber}
+use Rattle.graph.specs.Graph.{Graph, link, links, mixtureType}
+
+pub mixture-number : mixtureType ≡ 25
+unfolding typeNumber numberFrom same
+mixture-number = refl
 
 pub or-inv : (x y : Bool) → (x || y) ≡ true → (x ≡ true) ⊎ (y ≡ true)
 or-inv true y e = inl refl

@@ -1,3 +1,4 @@
 pub mod GraphLaws
 pub mod PathLaws
 pub mod LowestLaws
+pub mod ListLaws

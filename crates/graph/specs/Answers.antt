@@ -1,7 +1,9 @@
 -- The lowest primitive on a loop, and the materials that a primitive may show.
-use mathlib.Core.Bool.{Bool, true, false, cond, _&&_}
+use mathlib.Core.Bool.{Bool, true, false, cond, _&&_, _||_}
 use mathlib.Core.List.{List, [], _∷_, _++_}
-use Prim.Native.Nat.{ℕ, zero, suc}
+use mathlib.Core.Path.{_≡_}
+use Prim.Native.Nat.{ℕ, zero, suc, _<_, _≤_}
+use lib.Dec.{eqb}
 use Rattle.scene.specs.Types.{isMaterial}
 use Rattle.graph.specs.Graph.{Graph, goesOn, link}
 use Rattle.graph.specs.Paths.{via}
@@ -39,3 +41,19 @@ shows g count n m = leads g false count n m && isMaterial (g .nodes m .type)
 
 unfoldable pub shownIn : Graph → (count n : ℕ) → List ℕ
 shownIn g count n = those (shows g count n) count
+
+-- ---- what such a list is
+
+abbrev pub standsIn : ℕ → List ℕ → Bool
+standsIn m [] = false
+standsIn m (n ∷ ns) = eqb m n || standsIn m ns
+
+-- each number is above the one before it, and the first above another
+abbrev pub Ascending : (above : ℕ) → List ℕ → Type 0
+Ascending a [] = Unit
+Ascending a (n ∷ ns) = (a < n) × Ascending n ns
+
+-- "each once, smallest number first": and in it stand exactly the materials that n may show
+pub record ListsEachOnce (g : Graph) (count n : ℕ) : Type 0 where
+  pub ascending : Ascending 0 (shownIn g count n)
+  pub exactly : (m : ℕ) → 0 < m → m ≤ count → standsIn m (shownIn g count n) ≡ shows g count n m

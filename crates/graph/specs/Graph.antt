@@ -4,8 +4,12 @@ use mathlib.Core.List.{List, [], _∷_}
 use Prim.Native.Nat.{ℕ, zero, suc, _+_, _*_}
 use lib.Dec.{eqb, leb}
 use lib.ListN.{getD}
-use Rattle.scene.specs.Types.{isMaterial}
+use Rattle.laws.specs.Bytes.{bytes}
+use Rattle.scene.specs.Types.{isMaterial, typeNumber}
 use Rattle.table.specs.View.{View, viewOf}
+
+abbrev pub mixtureType : ℕ
+mixtureType = typeNumber (bytes "mixfunc")
 
 -- the foreground and the background of a mixture; 0 for none
 pub record Sides : Type 0 where

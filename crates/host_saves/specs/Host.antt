@@ -3,7 +3,7 @@ use mathlib.Core.List.{List}
 use mathlib.Core.Path.{_≡_}
 use Prim.Native.Nat.{ℕ}
 use lib.Ieee.{Float}
-use Rattle.host_scenes.specs.Host.{modeOf}
+use Rattle.host_reading.specs.Host.{modeOf}
 use Rattle.laws.specs.Bytes.{Bytes}
 use Rattle.pair.specs.Both as both
 use Rattle.pair.specs.Both.{ReadsBoth, bothAnswer}

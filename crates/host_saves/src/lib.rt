@@ -28,7 +28,7 @@ pub fn tell_both(
     ensures { λ r. ⌜ HostReadsBoth mode (now (left .entry)) (now («left_records» .entry)) (now («left_reals» .entry)) (now (right .entry)) (now («right_records» .entry)) (now («right_reals» .entry)) r (now (answer .exit)) (now («left_records» .exit)) (now («left_reals» .exit)) (now («right_records» .exit)) (now («right_reals» .exit)) ⌝ }
 {
     match pair::read_both(
-        host_scenes::mode_of(mode),
+        host_reading::mode_of(mode),
         left,
         left_records,
         left_reals,

@@ -3,7 +3,7 @@ use mathlib.Core.List.{List}
 use mathlib.Core.Path.{_≡_, ap, subst}
 use Prim.Native.Nat.{ℕ}
 use lib.Ieee.{Float}
-use Rattle.host_scenes.specs.Host.{modeOf}
+use Rattle.host_reading.specs.Host.{modeOf}
 use Rattle.laws.specs.Bytes.{Bytes}
 use Rattle.scene.specs.declared.Mode.{Mode}
 use Rattle.writer.specs.Answer as written

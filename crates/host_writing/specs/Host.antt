@@ -4,7 +4,7 @@ use mathlib.Core.Path.{_≡_}
 use Prim.Native.Nat.{ℕ}
 use lib.Ieee.{Float}
 use lib.ListN.{length}
-use Rattle.host_scenes.specs.Host.{modeOf}
+use Rattle.host_reading.specs.Host.{modeOf}
 use Rattle.laws.specs.Bytes.{Bytes}
 use Rattle.writer.specs.Answer as written
 use Rattle.writer.specs.Answer.{answered, output, tidied}

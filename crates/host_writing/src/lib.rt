@@ -13,7 +13,7 @@ pub fn tell_written(
 ) -> u32
     ensures { λ r. ⌜ HostWrites mode (now (text .entry)) (now (records .entry)) (now (reals .entry)) (now (out .entry)) r (now (answer .exit)) (now (out .exit)) ⌝ }
 {
-    match writer::write(host_scenes::mode_of(mode), text, records, reals, out) {
+    match writer::write(host_reading::mode_of(mode), text, records, reals, out) {
         Answer::Written(len) => {
             *answer = [0, len];
             0

@@ -6,7 +6,7 @@ use Prim.Native.Nat.{ℕ, suc}
 use lib.Dec.{eqb}
 use lib.ListN.{length, length-map}
 use Rattle.laws.specs.Bytes.{Bytes, same}
-use Rattle.scene.specs.Reading.{Entry, statements, accepted, read}
+use Rattle.scene.specs.Reading.{Entry, statements, accepted, readStatements}
 use Rattle.scene.specs.declared.Settings.{Settings}
 use Rattle.scene.specs.Statement.{Statement}
 use Rattle.scene.specs.Told.{Told, told}
@@ -39,7 +39,7 @@ keys-names n (t ∷ d) = rw (length-map d (λ (t : Told). named (t .name))) (go 
     go true h = λ i. record { name = t .name; nth = suc (times-names (t .name) d i) }
     go false h = h
 
-module _ (r : Settings) (text : Bytes) (es : List Entry) (reads : read r text ≡ accepted es) where
+module _ (r : Settings) (text : Bytes) (es : List Entry) (reads : readStatements r text ≡ accepted es) where
   names-to : (l x : List Entry) → es ≡ l ++ x → bare (rowsTo text es (length x)) ≡ names (statements x)
   unfolding rowsTo statements told
   names-to l [] q = refl

@@ -13,7 +13,7 @@ use Rattle.laws.specs.Bytes.{Bytes, part}
 use Rattle.scene.proofs.FlatLaws.{flat-length, record-in}
 use Rattle.scene.proofs.TellsLaws.{At, at, nth-at, records-length, tells-told, read-read}
 use Rattle.scene.specs.HouseRules.{zeroReal}
-use Rattle.scene.specs.Reading.{Reading, Entry, statements, accepted, read}
+use Rattle.scene.specs.Reading.{Reading, Entry, statements, accepted, readStatements}
 use Rattle.scene.specs.Record.{Record, records, nth, realTable, width, flat, recordImage, realImage}
 use Rattle.scene.specs.declared.Settings.{Settings}
 use Rattle.scene.specs.Told.{Told, tells, told, wordsFrom}
@@ -42,7 +42,7 @@ tells-padded text xs ys r h = λ i. record {
   next = r .next;
 }
 
-module _ (r : Settings) (text : Bytes) (es : List Entry) (reads : read r text ≡ accepted es) where
+module _ (r : Settings) (text : Bytes) (es : List Entry) (reads : readStatements r text ≡ accepted es) where
   -- a row of an accepted text is what its statement says
   pub row-told : (k : ℕ) (a : At es k) → tells text (realTable es) (nth (records es) (suc k)) ≡ told (statements (a .l)) (a .e .statement) (statements (a .x))
   row-told k a = ap (tells text (realTable es)) (nth-at es (a .l) (a .e) (a .x) (suc k) (a .split) (ap suc (sym (a .number)))) ∙ tells-told text es (a .l) (a .e) (a .x) (read-read r text es reads) (a .split)
@@ -59,26 +59,26 @@ module _ (r : Settings) (text : Bytes) (es : List Entry) (reads : read r text �
     rows-to (suc n) h = λ i. (ap (tells text (realImage doubles (accepted es))) (record-in text (records es) lent (suc n)) ∙ tells-padded text (realTable es) (replicate (doubles - length (realTable es)) zeroReal) (nth (records es) (suc n)) (row-full n h)) i ∷ rows-to n (omega arith) i
 
     -- the rows of a text read into tables of any sizes
-    pub rows-read : rowsIn text (recordImage text lent (read r text)) (realImage doubles (read r text)) (length es) ≡ rowsOf text es
+    pub rows-read : rowsIn text (recordImage text lent (readStatements r text)) (realImage doubles (readStatements r text)) (length es) ≡ rowsOf text es
     rows-read = ap (λ (x : Reading). rowsIn text (recordImage text lent x) (realImage doubles x) (length es)) reads ∙ rows-to (length es) (omega arith)
 
   -- of a table, what stands up to the last record
-  lent-records : (lent : ℕ) → length es * width ≡ length (flat text (records es)) → take (length es * width) (recordImage text lent (read r text)) ≡ flat text (records es)
+  lent-records : (lent : ℕ) → length es * width ≡ length (flat text (records es)) → take (length es * width) (recordImage text lent (readStatements r text)) ≡ flat text (records es)
   unfolding recordImage
   lent-records lent e = ap (λ (x : Reading). take (length es * width) (recordImage text lent x)) reads ∙ ap (λ (n : ℕ). take n (flat text (records es) ++ replicate (lent - length (flat text (records es))) 0)) e ∙ take-append-seam (flat text (records es)) (replicate (lent - length (flat text (records es))) 0)
 
-  all-records : length es * width ≡ length (flat text (records es)) → recordImage text (length es * width) (read r text) ≡ flat text (records es)
+  all-records : length es * width ≡ length (flat text (records es)) → recordImage text (length es * width) (readStatements r text) ≡ flat text (records es)
   unfolding recordImage
   all-records e = ap (recordImage text (length es * width)) reads ∙ ap (λ (n : ℕ). flat text (records es) ++ replicate n 0) (let z : length es * width - length (flat text (records es)) ≡ 0 = omega arith in z) ∙ append-nil (flat text (records es))
 
   -- the rows of a text read into tables of any sizes, where that of the records is lent up to the last one
-  pub scene-read : (lent doubles : ℕ) → sceneRows text (take (length es * width) (recordImage text lent (read r text))) (realImage doubles (read r text)) ≡ rowsOf text es
+  pub scene-read : (lent doubles : ℕ) → sceneRows text (take (length es * width) (recordImage text lent (readStatements r text))) (realImage doubles (readStatements r text)) ≡ rowsOf text es
   unfolding records
   scene-read lent doubles =
       let e : length es * width ≡ length (flat text (records es)) = omega (arith, flat-length text (records es), records-length [] es) in
       let c : length (flat text (records es)) / width ≡ length es = omega arith in
-      (λ i. sceneRows text (lent-records lent e i) (realImage doubles (read r text)))
-      ∙ (λ i. rowsIn text (sym (all-records e) i) (realImage doubles (read r text)) (c i))
+      (λ i. sceneRows text (lent-records lent e i) (realImage doubles (readStatements r text)))
+      ∙ (λ i. rowsIn text (sym (all-records e) i) (realImage doubles (readStatements r text)) (c i))
       ∙ rows-read (length es * width) doubles
 
 -- ---- a row by its number

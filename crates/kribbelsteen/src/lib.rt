@@ -1,6 +1,7 @@
 // The entry points for host programs, under C's calling convention: numbers, slices and small arrays, no precondition. Each is
-// the call of the same promise in `host_scenes`, `host_saves`, `host_lines`, `host_writing`, `host_rays`,
-// `host_polygon`, `ranks` or `root`.
+// the call of the same promise in `host_reading`, `host_scenes`, `host_shown`, `host_saves`, `host_lines`, `host_writing`,
+// `host_rays`, `host_polygon`, `ranks` or `root`.
+ghost use mathlib.Core.List.{[], _∷_};
 ghost use mathlib.Core.Path.{_≡_};
 ghost use lib.ListN.{length, replicate};
 ghost use Rattle.finish.specs.Question.{nameRefusal};
@@ -12,12 +13,15 @@ ghost use Rattle.host_lines.specs.Host.{HostLine};
 ghost use Rattle.host_lines.specs.Ordered.{HostOrdered};
 ghost use Rattle.host_rays.specs.Host.{hitKind, hitValues, rayIn, reflectionKind, reflectionValues, ringIn, sphereIn};
 ghost use Rattle.host_saves.specs.Host.{HostReadsBoth};
-ghost use Rattle.host_scenes.specs.Host.{HostReads, HostReadsIndexed, finishReason, finishValues, namePart, wordValues};
+ghost use Rattle.host_reading.specs.Host.{HostReads, HostReadsIndexed};
+ghost use Rattle.host_scenes.specs.Host.{finishReason, finishValues, namePart, wordValues};
+ghost use Rattle.host_shown.specs.Host.{shownMany, shownReason};
 ghost use Rattle.host_writing.specs.Host.{HostWrites};
 ghost use Rattle.ordered.specs.Lines.{scene};
 ghost use Rattle.polygon.specs.Polygon.{polygonHit};
 ghost use Rattle.ranks.specs.Rank.{orderTable};
 ghost use Rattle.root.specs.Root.{rootOf};
+ghost use Rattle.shown.specs.List.{shownList};
 ghost use Rattle.table_polygon.specs.InTable.{hitInTable};
 
 // Reads a scene: the reason or 0, and place, primitives, reals.
@@ -27,11 +31,12 @@ pub extern "C" fn kribbelsteen_read(
     text: &[u8],
     records: &mut [u32],
     reals: &mut [f64],
+    pairs: &mut [u32],
     answer: &mut [usize; 3],
 ) -> u32
-    ensures { λ r. ⌜ HostReads mode (now (text .entry)) (now (records .entry)) (now (reals .entry)) r (now (answer .exit)) (now (records .exit)) (now (reals .exit)) ⌝ }
+    ensures { λ r. ⌜ HostReads mode (now (text .entry)) (now (records .entry)) (now (reals .entry)) (now (pairs .entry)) r (now (answer .exit)) (now (records .exit)) (now (reals .exit)) (now (pairs .exit)) ⌝ }
 {
-    host_scenes::tell_reading(mode, text, records, reals, answer)
+    host_reading::tell_reading(mode, text, records, reals, pairs, answer)
 }
 
 // Reads a scene by a lent index: the reason or 0, and place, primitives, reals, and entries looked at.
@@ -41,12 +46,13 @@ pub extern "C" fn kribbelsteen_read_indexed(
     text: &[u8],
     records: &mut [u32],
     reals: &mut [f64],
+    pairs: &mut [u32],
     index: &mut [u32],
     answer: &mut [usize; 4],
 ) -> u32
-    ensures { λ r. ⌜ HostReadsIndexed mode (now (text .entry)) (now (records .entry)) (now (reals .entry)) (now (index .entry)) r (now (answer .exit)) (now (records .exit)) (now (reals .exit)) (now (index .exit)) ⌝ }
+    ensures { λ r. ⌜ HostReadsIndexed mode (now (text .entry)) (now (records .entry)) (now (reals .entry)) (now (pairs .entry)) (now (index .entry)) r (now (answer .exit)) (now (records .exit)) (now (reals .exit)) (now (pairs .exit)) (now (index .exit)) ⌝ }
 {
-    host_scenes::tell_indexed(mode, text, records, reals, index, answer)
+    host_reading::tell_indexed(mode, text, records, reals, pairs, index, answer)
 }
 
 // A primitive's name: the refusal's number or 0, and the name's place and length.
@@ -77,6 +83,23 @@ pub extern "C" fn kribbelsteen_finish(
     ensures { λ r. ⌜ now (answer .exit) ≡ finishValues (now (records .entry)) count number allowance ⌝ }
 {
     host_scenes::tell_finish(records, count, number, allowance, answer)
+}
+
+// The materials that a primitive may show, smallest number first in the list: the refusal's number or 0, and how many there are.
+#[no_mangle]
+pub extern "C" fn kribbelsteen_shown(
+    records: &[u32],
+    pairs: &[u32],
+    count: usize,
+    number: usize,
+    list: &mut [u32],
+    answer: &mut [usize; 1],
+) -> u32
+    ensures { λ r. ⌜ r ≡ shownReason (now (records .entry)) (now (pairs .entry)) count number (length (now (list .entry))) ⌝ }
+    ensures { λ r. ⌜ now (answer .exit) ≡ shownMany (now (records .entry)) (now (pairs .entry)) count number (length (now (list .entry))) ∷ [] ⌝ }
+    ensures { λ r. ⌜ now (list .exit) ≡ shownList (now (records .entry)) (now (pairs .entry)) count number (length (now (list .entry))) ⌝ }
+{
+    host_shown::tell_shown(records, pairs, count, number, list, answer)
 }
 
 // The word at or after a place: its place and length.

@@ -3,12 +3,11 @@ use mathlib.Core.Bool.{Bool, true, false, not, cond}
 use mathlib.Core.List.{List, [], _∷_, _++_}
 use mathlib.Core.Path.{_≡_, refl, ap, sym, _∙_}
 use Prim.Native.Nat.{ℕ, zero, suc, _+_, _-_, _*_, _/_, _≤_, min}
-use native.Mathlib.Nat.{sub-zero, zero-sub, suc-sub-suc}
 use native.Mathlib.Omega.{arith}
 use borrow.Author.Tests.{le-leb, lt-leb}
 use lib.Dec.{leb}
-use lib.ListN.{length, length-append, length-set, length-replicate, length-take, replicate, set, take, drop}
-use lib.Seq.{sets, sets-eq, set-append-left, take-append-seam, drop-append-add}
+use lib.ListN.{length, length-append, length-set, length-take, replicate, set, take}
+use lib.Seq.{set-append-left, sets}
 use Rattle.laws.proofs.BoolLaws.{cond-elim}
 use Rattle.laws.specs.Bytes.{Bytes, part}
 use Rattle.line_numbers.proofs.LineLaws.{line-goes-on}
@@ -21,7 +20,8 @@ use Rattle.index.specs.declared.Found.{Found}
 use Rattle.linker.specs.Entered.{earlierIn, enteredAt, enteredIn, indexedIn, recordFrom, rowOf, toldIn}
 use Rattle.statement.specs.States.{clipped}
 use Rattle.statement.specs.declared.Draft.{Draft}
-use Rattle.scene.proofs.FlatLaws.{flat-next, link, flat-snoc, flat-length}
+use Rattle.scene.proofs.FilledLaws.{put-behind}
+use Rattle.scene.proofs.FlatLaws.{flat-length, flat-next, flat-snoc, link}
 use Rattle.scene.proofs.GivesLaws.{gives-by-type}
 use Rattle.scene.proofs.GrowLaws.{records-grow, toldOf}
 use Rattle.scene.proofs.LineLaws.{newlines-most}
@@ -34,11 +34,6 @@ use Rattle.scene.specs.Reading.{newline, Entry, statements}
 use Rattle.scene.specs.Statement.{Statement}
 use Rattle.scene.specs.Record.{lineAt, width, flat, recordOf, Record, filled, fields, records, nextField}
 use Rattle.scene.specs.Types.{isSurface}
-
-drop-zeros : (k n : ℕ) → drop {A = ℕ} k (replicate n 0) ≡ replicate (n - k) 0
-drop-zeros zero n = rw sub-zero
-drop-zeros (suc k) zero = rw zero-sub
-drop-zeros (suc k) (suc n) = rw suc-sub-suc (drop-zeros k n)
 
 link-length : (R : List Record) (m v : ℕ) → length (link R m v) ≡ length R
 link-length R zero v = refl
@@ -54,15 +49,8 @@ told-link text R z (suc k) v h =
 -- a record put behind the others
 put-record : (text : Bytes) (R : List Record) (r : Record) (n m : ℕ) → n ≡ length R → n * width + width ≤ m → sets (filled 0 m (flat text R)) (n * width) (fields text r) ≡ filled 0 m (flat text (R ++ r ∷ []))
 put-record text R r n m q h =
-    let z : List ℕ = replicate (m - length (flat text R)) 0 in
     let l : n * width ≡ length (flat text R) = omega (arith, flat-length text R) in
-    let f : n * width + width ≤ length (flat text R ++ z) = omega (arith, length-append (flat text R) z, length-replicate {A = ℕ} (m - length (flat text R)) 0) in
-    let a : take (n * width) (flat text R ++ z) ≡ flat text R = ap (λ (k : ℕ). take k (flat text R ++ z)) l ∙ take-append-seam (flat text R) z in
-    let c : m - length (flat text R) - width ≡ m - length (flat text (R ++ r ∷ [])) = omega (arith, flat-length text (R ++ r ∷ []), length-append R (r ∷ []), flat-length text R) in
-    let b : drop (n * width + width) (flat text R ++ z) ≡ replicate (m - length (flat text (R ++ r ∷ []))) 0 =
-    ap (λ (k : ℕ). drop (k + width) (flat text R ++ z)) l ∙ drop-append-add (flat text R) z width ∙ drop-zeros width (m - length (flat text R)) ∙
-    ap (λ (k : ℕ). replicate k 0) c in
-    sets-eq (fields text r) (flat text R ++ z) (n * width) f ∙ (λ i. (a i ++ fields text r) ++ b i) ∙ (λ i. sym (flat-snoc text R r) i ++ replicate (m - length (flat text (R ++ r ∷ []))) 0)
+    ap (λ (k : ℕ). sets (filled 0 m (flat text R)) k (fields text r)) l ∙ put-behind (flat text R) (fields text r) m (omega (arith, l)) ∙ ap (filled 0 m) (sym (flat-snoc text R r))
 
 records-count : (es : List Entry) → length (records es) ≡ length es
 unfolding records

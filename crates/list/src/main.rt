@@ -34,7 +34,7 @@ fn print_rows(text: &[u8], records: &[u32], count: usize) -> bool {
 fn list(mode: Mode, text: &[u8]) -> bool {
     let mut records = [0u32; table::MOST_NUMBERS];
     let mut reals = [0.0f64; table::MOST_REALS];
-    match reader::read_with_own_index(mode, text, &mut records, &mut reals) {
+    match reader::read_with_own_tables(mode, text, &mut records, &mut reals) {
         Answer::Accepted(primitives, count) => {
             print_head(mode, 0, 0, primitives, count) && print_rows(text, &records, primitives)
         }

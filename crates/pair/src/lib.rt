@@ -1,7 +1,7 @@
 // Two texts read afresh into tables of their own.
 ghost use Rattle.pair.specs.Both.{ReadsBoth};
 use reader::Answer;
-use reader::read_with_own_index;
+use reader::read_with_own_tables;
 use scene::Mode;
 
 // Which scene.
@@ -28,12 +28,12 @@ pub fn read_both(
 ) -> Both
     ensures { λ r. ⌜ ReadsBoth mode (now (left .entry)) (now («left_records» .entry)) (now («left_reals» .entry)) (now (right .entry)) (now («right_records» .entry)) (now («right_reals» .entry)) r (now («left_records» .exit)) (now («left_reals» .exit)) (now («right_records» .exit)) (now («right_reals» .exit)) ⌝ }
 {
-    match read_with_own_index(mode, left, left_records, left_reals) {
+    match read_with_own_tables(mode, left, left_records, left_reals) {
         Answer::Refused(reason, place) => {
             table::clear(right_records, right_reals);
             Both::Refused(Side::Left, reason, place)
         }
-        Answer::Accepted(m, j) => match read_with_own_index(
+        Answer::Accepted(m, j) => match read_with_own_tables(
             mode,
             right,
             right_records,

@@ -1,4 +1,5 @@
 pub mod ReadsLaws
+pub mod PairedLaws
 pub mod ExchangeLaws
 pub mod IndexedLaws
 pub mod EndLaws

@@ -1,5 +1,6 @@
 -- To be believed.
 pub mod Answer
+pub mod Paired
 pub mod Exchange
 pub mod Links
 pub mod Archive

@@ -21,7 +21,7 @@ use Rattle.scene.proofs.SpellingLaws.{numerals-length, headWords, PrimitiveRead
 use Rattle.scene.proofs.SwapLaws.{hits-true, Linked, LinkedOne, linked-split, bodyLink}
 use Rattle.scene.proofs.TellsLaws.{numbers-length, statements-length, split-statements, read-read}
 use Rattle.scene.specs.Links.{hits, found, head, definition, latest, targetLink, ownBody, typeIn, stringsIn, realsIn}
-use Rattle.scene.specs.Reading.{Entry, statements, newline, modifierTest, accepted, read}
+use Rattle.scene.specs.Reading.{Entry, statements, newline, modifierTest, accepted, readStatements}
 use Rattle.scene.specs.Record.{Record, nameIn, recordOf, recordIn, recordImage}
 use Rattle.scene.specs.declared.Settings.{Settings}
 use Rattle.scene.specs.Statement.{Literal, numbers, numeralWords, Body, primitive, alias, Statement, void}
@@ -88,7 +88,7 @@ module _ (text : Bytes) (table : List ℕ) where
 
 -- ---- the records of an accepted text
 
-module _ (r : Settings) (text : Bytes) (es : List Entry) (n : ℕ) (reads : read r text ≡ accepted es) where
+module _ (r : Settings) (text : Bytes) (es : List Entry) (n : ℕ) (reads : readStatements r text ≡ accepted es) where
   abbrev table : List ℕ
   table = recordImage text n (accepted es)
 
@@ -187,5 +187,5 @@ module _ (r : Settings) (text : Bytes) (es : List Entry) (n : ℕ) (reads : read
   texts l [] q = refl
   texts l (e ∷ x) q = λ i. texts (l ++ e ∷ []) x (next l e x q) i ++ record-text l e x q i
 
-pub written : (r : Settings) (text : Bytes) (es : List Entry) (n : ℕ) → read r text ≡ accepted es → recordTexts text (recordImage text n (accepted es)) (length es) ≡ tidy (statements es)
+pub written : (r : Settings) (text : Bytes) (es : List Entry) (n : ℕ) → readStatements r text ≡ accepted es → recordTexts text (recordImage text n (accepted es)) (length es) ≡ tidy (statements es)
 written r text es n reads = texts r text es n reads [] es refl

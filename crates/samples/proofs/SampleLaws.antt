@@ -25,7 +25,7 @@ use Rattle.scene.specs.Block.{inBlock, given, referred, stands, share, shift}
 use Rattle.scene.specs.Exchange.{Exchange, Exchanged, exchangeShift, statementsIn}
 use Rattle.scene.specs.HouseRules.{breach, breachAt, realAt, isAbove0, isAtLeast0, is0}
 use Rattle.scene.specs.Links.{gives, hits, found, resolve, firstLater, realsUsed}
-use Rattle.scene.specs.Reading.{Entry, read, refused, run, statements}
+use Rattle.scene.specs.Reading.{Entry, readStatements, refused, run, statements}
 use Rattle.scene.specs.Record.{entries, records, recordsFrom, recordOf, stringPlace, nth, realTable, reals, fullRoom}
 use Rattle.samples.specs.Samples.{lamp, wall, panel, oak, grey, desk, ball, small, large, cutout}
 use Rattle.scene.specs.Told.{tells, wordsFrom, renumbered}
@@ -36,7 +36,7 @@ use Rattle.laws.specs.Runs as runs
 
 -- unfolding this unfolds all that reading a text computes with
 readings : Unit {0}
-unfolding read run statements gives hits found realsUsed typeNumber numberFrom kindOf stringsAllowed realsAllowed breach breachAt realAt isAbove0 isAtLeast0 is0 same all runs.run isBlank isGood wordFault countOf digits isDigit valueFrom numeralOf wellFormed isMantissa isExponent mantissa exponent before behind has indexOf isPoint isMark isSign negative unsigned coefficient up down inRange nearest numberOf round lt le eq
+unfolding readStatements run statements gives hits found realsUsed typeNumber numberFrom kindOf stringsAllowed realsAllowed breach breachAt realAt isAbove0 isAtLeast0 is0 same all runs.run isBlank isGood wordFault countOf digits isDigit valueFrom numeralOf wellFormed isMantissa isExponent mantissa exponent before behind has indexOf isPoint isMark isSign negative unsigned coefficient up down inRange nearest numberOf round lt le eq
 readings = tt
 
 -- unfolding this unfolds all that a record, and what it tells, computes with
@@ -50,7 +50,7 @@ room = fullRoom New
 -- ---- an exchange
 
 es : List Entry
-es = entries (read room (lamp ++ wall ++ panel))
+es = entries (readStatements room (lamp ++ wall ++ panel))
 
 lamp-first : Exchange room [] lamp wall panel es
 unfolding es readings inBlock given referred stands share
@@ -65,20 +65,20 @@ wall-first : Exchanged room [] lamp wall panel es
 wall-first = exchange-law room [] lamp wall panel es lamp-first
 
 -- what is told of the panel: its finish was 2 and is 1, and nothing else changed
-panel-told : tells (wall ++ lamp ++ panel) (realTable (entries (read room (wall ++ lamp ++ panel)))) (nth (records (entries (read room (wall ++ lamp ++ panel)))) 3) ≡ renumbered (exchangeShift es [] lamp wall) (tells (lamp ++ wall ++ panel) (realTable es) (nth (records es) 3))
+panel-told : tells (wall ++ lamp ++ panel) (realTable (entries (readStatements room (wall ++ lamp ++ panel)))) (nth (records (entries (readStatements room (wall ++ lamp ++ panel)))) 3) ≡ renumbered (exchangeShift es [] lamp wall) (tells (lamp ++ wall ++ panel) (realTable es) (nth (records es) 3))
 unfolding es tables inBlock shift
 panel-told = refl
 
 -- ---- truck nine: the two finishes share a name, and the desk's finish changes from the later one to the other
 
-twice : share (given (statementsIn (entries (read room (oak ++ grey ++ desk))) [] oak)) (given (statementsIn (entries (read room (oak ++ grey ++ desk))) oak grey) ++ referred (statementsIn (entries (read room (oak ++ grey ++ desk))) oak grey)) ≡ true
+twice : share (given (statementsIn (entries (readStatements room (oak ++ grey ++ desk))) [] oak)) (given (statementsIn (entries (readStatements room (oak ++ grey ++ desk))) oak grey) ++ referred (statementsIn (entries (readStatements room (oak ++ grey ++ desk))) oak grey)) ≡ true
 unfolding readings inBlock given referred stands share
 twice = refl
 
 -- the desk's modifier, and the types of the two finishes
 desk-facts : Bytes → List ℕ
 desk-facts text =
-    let rs = records (entries (read room text)) in
+    let rs = records (entries (readStatements room text)) in
     nth rs 3 .modifier ∷ nth rs 1 .type ∷ nth rs 2 .type ∷ []
 
 oak-first : desk-facts (oak ++ grey ++ desk) ≡ 2 ∷ 15 ∷ 16 ∷ []
@@ -93,7 +93,7 @@ grey-first = refl
 
 ball-facts : Bytes → List ℕ
 ball-facts text =
-    let rs = records (entries (read room text)) in
+    let rs = records (entries (readStatements room text)) in
     nth rs 3 .modifier ∷ nth rs 1 .next ∷ nth rs 2 .next ∷ []
 
 ball-passed : ball-facts (wall ++ ball ++ panel) ≡ 1 ∷ 0 ∷ 0 ∷ []
@@ -103,7 +103,7 @@ ball-passed = refl
 -- ---- two surfaces of one name give none and may be exchanged, but the comparison counts them: both have changed
 
 knobs : List Entry
-knobs = entries (read room (small ++ large))
+knobs = entries (readStatements room (small ++ large))
 
 small-first : Exchange room [] small large [] knobs
 unfolding knobs readings inBlock given referred stands share
@@ -114,19 +114,19 @@ small-first = record {
   independent = record { first = refl; second = refl };
 }
 
-knobs-changed : compared (rowsOf (small ++ large) knobs) (rowsOf (large ++ small) (entries (read room (large ++ small)))) ≡ record { key = nthOf (bytes "knob") 1; state = changed } ∷ record { key = nthOf (bytes "knob") 2; state = changed } ∷ []
+knobs-changed : compared (rowsOf (small ++ large) knobs) (rowsOf (large ++ small) (entries (readStatements room (large ++ small)))) ≡ record { key = nthOf (bytes "knob") 1; state = changed } ∷ record { key = nthOf (bytes "knob") 2; state = changed } ∷ []
 unfolding knobs tables compared linesFor rowsTo sameContent sameWords sameReals toBits key.times key.found key.lower key.before key.insert key.insertAll
 knobs-changed = refl
 
 -- ---- a cut-out and an alias of it: the new reading refuses them at the type word, and the archive one reads both
 
-cutout-refused : read (fullRoom New) (oak ++ cutout) ≡ refused 28 47
+cutout-refused : readStatements (fullRoom New) (oak ++ cutout) ≡ refused 28 47
 unfolding readings
 cutout-refused = refl
 
 cutout-facts : Bytes → List ℕ
 cutout-facts text =
-    let rs = records (entries (read (fullRoom Archive) text)) in
+    let rs = records (entries (readStatements (fullRoom Archive) text)) in
     nth rs 2 .type ∷ nth rs 3 .type ∷ nth rs 3 .target ∷ []
 
 cutout-read : cutout-facts (oak ++ cutout) ≡ 24 ∷ 24 ∷ 2 ∷ []

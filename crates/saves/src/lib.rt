@@ -84,7 +84,7 @@ fn compare(mode: Mode, left: &[u8], right: &[u8]) -> bool {
 fn left_refusal(mode: Mode, left: &[u8]) -> Answer {
     let mut records = [0u32; MOST_NUMBERS];
     let mut reals = [0.0f64; MOST_REALS];
-    reader::read_with_own_index(mode, left, &mut records, &mut reals)
+    reader::read_with_own_tables(mode, left, &mut records, &mut reals)
 }
 
 // The left text's refusal comes first.

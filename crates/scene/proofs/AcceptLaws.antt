@@ -10,7 +10,7 @@ use Rattle.laws.specs.Bytes.{Bytes}
 use Rattle.lexer.specs.Class.{isBlank}
 use Rattle.scene.proofs.SyntaxLaws.{Step, halt, pass, after, step, onTop, chain, parse, parse-append, onTop-nil, agree, run-agree, Sound, AtPhase, OfOutcome, word-forth, word-back}
 use Rattle.scene.specs.Phase.{Phase, idle, busy, Outcome, refuse, into, done, word}
-use Rattle.scene.specs.Reading.{Scan, gap, comment, within, Move, keep, first, command, ended, move, test, Entry, Going, State, stopped, going, statements, settle, advance, run, initial, refused, accepted, finish, endIn, newline, read}
+use Rattle.scene.specs.Reading.{Scan, gap, comment, within, Move, keep, first, command, ended, move, test, Entry, Going, State, stopped, going, statements, settle, advance, run, initial, refused, accepted, finish, endIn, newline, readStatements}
 use Rattle.scene.specs.declared.Settings.{Settings}
 use Rattle.scene.specs.Statement.{Statement}
 
@@ -146,16 +146,16 @@ finish-inv len (going g) es e = go (g .phase) refl e
     go idle p q = (g, refl, p, cc)
     go (busy m part) p q = let z : _≡_ {A = ℕ} 0 1 = cc in absurd (omega arith)
 
-pub read-inv : (r : Settings) (text : Bytes) (es : List Entry) → read r text ≡ accepted es → (leb (length text) 65536 ≡ true) × ((g : Going) × (run r initial (text ++ newline) ≡ going g) × (g .phase ≡ idle) × (g .above ≡ es))
-unfolding read
+pub read-inv : (r : Settings) (text : Bytes) (es : List Entry) → readStatements r text ≡ accepted es → (leb (length text) 65536 ≡ true) × ((g : Going) × (run r initial (text ++ newline) ≡ going g) × (g .phase ≡ idle) × (g .above ≡ es))
+unfolding readStatements
 read-inv r text es e = go (leb (length text) 65536) e
   where
     go : (b : Bool) → cond b (finish (length text) (run r initial (text ++ newline))) (refused 1 0) ≡ accepted es → (b ≡ true) × ((g : Going) × (run r initial (text ++ newline) ≡ going g) × (g .phase ≡ idle) × (g .above ≡ es))
     go true q = (refl, finish-inv (length text) (run r initial (text ++ newline)) es q)
     go false q = let z : _≡_ {A = ℕ} 0 1 = cc in absurd (omega arith)
 
-read-of : (r : Settings) (text : Bytes) (g : Going) → leb (length text) 65536 ≡ true → run r initial (text ++ newline) ≡ going g → g .phase ≡ idle → read r text ≡ accepted (g .above)
-unfolding read
+read-of : (r : Settings) (text : Bytes) (g : Going) → leb (length text) 65536 ≡ true → run r initial (text ++ newline) ≡ going g → g .phase ≡ idle → readStatements r text ≡ accepted (g .above)
+unfolding readStatements
 read-of r text g f e p = rw (f, e, p)
 
 -- what the machine's state says of the syntax
@@ -171,7 +171,7 @@ pub going-sound : (r : Settings) (t : Bytes) (g : Going) → run r initial t ≡
 unfolding statements
 going-sound r t g e = subst (Holds r) e (run-holds r t initial tt)
 
-pub accept-forth : (r : Settings) (text : Bytes) (es : List Entry) → read r text ≡ accepted es → (leb (length text) 65536 ≡ true) × (parse r gap idle (text ++ newline) ≡ pass gap idle (statements es)) × Sound r (statements es)
+pub accept-forth : (r : Settings) (text : Bytes) (es : List Entry) → readStatements r text ≡ accepted es → (leb (length text) 65536 ≡ true) × (parse r gap idle (text ++ newline) ≡ pass gap idle (statements es)) × Sound r (statements es)
 accept-forth r text es e =
     let i = read-inv r text es e in
     let g : Going = i .1 .0 in
@@ -180,11 +180,11 @@ accept-forth r text es e =
     let q : statements (g .above) ≡ statements es = ap statements (i .1 .3) in
     (i .0, cc (p, m, i .1 .2, q), subst (Sound r) q (subst (AtPhase r (statements (g .above))) (i .1 .2) (going-sound r (text ++ newline) g (i .1 .1))))
 
-pub accept-back : (r : Settings) (text : Bytes) (l : List Statement) → leb (length text) 65536 ≡ true → parse r gap idle (text ++ newline) ≡ pass gap idle l → Sound r l → (es : List Entry) × (read r text ≡ accepted es) × (statements es ≡ l)
+pub accept-back : (r : Settings) (text : Bytes) (l : List Statement) → leb (length text) 65536 ≡ true → parse r gap idle (text ++ newline) ≡ pass gap idle l → Sound r l → (es : List Entry) × (readStatements r text ≡ accepted es) × (statements es ≡ l)
 unfolding statements
 accept-back r text l f p h = go (run r initial (text ++ newline)) refl (run-alive r (text ++ newline) _ l p (subst (Sound r) (sym (append-nil l)) h))
   where
-    go : (X : State) → run r initial (text ++ newline) ≡ X → Alive X → (es : List Entry) × (read r text ≡ accepted es) × (statements es ≡ l)
+    go : (X : State) → run r initial (text ++ newline) ≡ X → Alive X → (es : List Entry) × (readStatements r text ≡ accepted es) × (statements es ≡ l)
     go (stopped n k) e a = absurd a
     go (going g) e a =
         let q : parse r gap idle (text ++ newline) ≡ pass (g .scan) (g .phase) (statements (g .above)) = going-parse r (text ++ newline) g e in

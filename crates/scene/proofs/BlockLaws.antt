@@ -19,7 +19,7 @@ use Rattle.scene.proofs.SyntaxLaws.{Step, pass, onTop, chain, parse, pa
 use Rattle.scene.specs.Block.{Block, CutsNone, EndsLine, inBlock, shift}
 use Rattle.scene.specs.Links.{realsUsed}
 use Rattle.scene.specs.Phase.{idle}
-use Rattle.scene.specs.Reading.{gap, Entry, Going, going, statements, run, initial, newline, accepted, read}
+use Rattle.scene.specs.Reading.{gap, Entry, Going, going, statements, run, initial, newline, accepted, readStatements}
 use Rattle.scene.specs.declared.Settings.{Settings}
 use Rattle.scene.specs.Statement.{Statement}
 
@@ -97,7 +97,7 @@ pub record Parts (r : Settings) (p a b q : Bytes) (es : List Entry) : Type 0 whe
 in-four : (lo hi : ℕ) (x y z w : List Entry) → inBlock lo hi (x ++ (y ++ (z ++ w))) ≡ inBlock lo hi x ++ (inBlock lo hi y ++ (inBlock lo hi z ++ inBlock lo hi w))
 in-four lo hi x y z w = simp in-append
 
-module _ (r : Settings) (p a b q : Bytes) (es : List Entry) (e : read r (p ++ a ++ b ++ q) ≡ accepted es) (ha : Block es p a) (hb : Block es (p ++ a) b) where
+module _ (r : Settings) (p a b q : Bytes) (es : List Entry) (e : readStatements r (p ++ a ++ b ++ q) ≡ accepted es) (ha : Block es p a) (hb : Block es (p ++ a) b) where
   end : (g : Going) × (run r initial (p ++ a ++ b ++ q ++ newline) ≡ going g) × (g .phase ≡ idle) × (g .above ≡ es)
   end = (read-inv r (p ++ a ++ b ++ q) es e) .1
 
@@ -206,7 +206,7 @@ module _ (r : Settings) (p a b q : Bytes) (es : List Entry) (e : read r (p ++ a 
 -- the numbers go from old to new by f, and back by g
 pub record Swapped (r : Settings) (text : Bytes) (f g : ℕ → ℕ) (old : List Statement) : Type 0 where
   pub entries : List Entry
-  pub reads : read r text ≡ accepted entries
+  pub reads : readStatements r text ≡ accepted entries
   pub reals : realsUsed (statements entries) ≡ realsUsed old
   pub renamed : Renamed f old (statements entries)
   pub back : Renamed g (statements entries) old
@@ -219,7 +219,7 @@ swapped : (r : Settings) (p a b q : Bytes) (es : List Entry) (k : Parts r p a b 
     → Swapped r (p ++ b ++ a ++ q) (shift (length (k .P)) (length (k .A)) (length (k .B))) (shift (length (k .P)) (length (k .B)) (length (k .A))) (statements es)
 swapped r p a b q es k fits sound cab cba =
     let len : length (p ++ b ++ a ++ q) ≡ length (p ++ a ++ b ++ q) = omega (arith, length-append (p ++ b ++ a) q, length-append (p ++ b) a, length-append p b, length-append (p ++ a ++ b) q, length-append (p ++ a) b, length-append p a) in
-    let new : (x : List Entry) × (read r (p ++ b ++ a ++ q) ≡ accepted x) × (statements x ≡ k .Q ++ (k .A ++ (k .B ++ k .P))) =
+    let new : (x : List Entry) × (readStatements r (p ++ b ++ a ++ q) ≡ accepted x) × (statements x ≡ k .Q ++ (k .A ++ (k .B ++ k .P))) =
     accept-back r (p ++ b ++ a ++ q) (k .Q ++ (k .A ++ (k .B ++ k .P)))
     (ap (λ n. leb n 65536) len ∙ fits)
     (read-turned r p a b q es k)
@@ -233,7 +233,7 @@ swapped r p a b q es k fits sound cab cba =
     }
 
 pub exchange : (r : Settings) (p a b q : Bytes) (es : List Entry)
-    → read r (p ++ a ++ b ++ q) ≡ accepted es
+    → readStatements r (p ++ a ++ b ++ q) ≡ accepted es
     → Block es p a
     → Block es (p ++ a) b
     → Clear (inBlock (length p) (length (p ++ a)) es) (inBlock (length (p ++ a)) (length (p ++ a ++ b)) es)

@@ -12,7 +12,7 @@ use Rattle.scene.proofs.RowLaws.{Moved}
 use Rattle.scene.proofs.TellsLaws.{At, at, nth-at, split-statements, statements-length, reals-length, tells-told, read-read}
 use Rattle.scene.specs.Exchange.{Renumbers, ExchangeLaw}
 use Rattle.scene.specs.Links.{realsUsed}
-use Rattle.scene.specs.Reading.{Entry, statements, accepted, read}
+use Rattle.scene.specs.Reading.{Entry, statements, accepted, readStatements}
 use Rattle.scene.specs.Record.{records, nth, realTable}
 use Rattle.scene.specs.declared.Settings.{Settings}
 use Rattle.scene.specs.Told.{told, renumbered, tells}
@@ -41,7 +41,7 @@ find (e ∷ es) (y ∷ later) s earlier q =
 
 -- ---- a renumbering of the statements is one of the table
 
-module _ (r : Settings) (old new : Bytes) (es es′ : List Entry) (f : ℕ → ℕ) (reads : read r old ≡ accepted es) (reads′ : read r new ≡ accepted es′) (names : Renamed f (statements es) (statements es′)) where
+module _ (r : Settings) (old new : Bytes) (es es′ : List Entry) (f : ℕ → ℕ) (reads : readStatements r old ≡ accepted es) (reads′ : readStatements r new ≡ accepted es′) (names : Renamed f (statements es) (statements es′)) where
   abbrev Row : ℕ → Type 0
   Row n = tells new (realTable es′) (nth (records es′) (f n)) ≡ renumbered f (tells old (realTable es) (nth (records es) n))
 

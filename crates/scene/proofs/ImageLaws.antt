@@ -13,7 +13,7 @@ use Rattle.scene.proofs.PlaceLaws.{AllRead}
 use Rattle.scene.proofs.RoomLaws.{fit-forth}
 use Rattle.scene.proofs.TellsLaws.{nth-at, name-at, read-tail, reals-length, records-length, statements-length}
 use Rattle.scene.specs.HouseRules.{zeroReal}
-use Rattle.scene.specs.Reading.{Entry, Reading, accepted, newline, read, refused, statements}
+use Rattle.scene.specs.Reading.{Entry, Reading, accepted, newline, readStatements, refused, statements}
 use Rattle.scene.specs.Record.{Record, entries, filled, flat, lineAt, lineIn, nameIn, realImage, realTable, reals, recordImage, recordIn, recordOf, records, recordsFrom, settingsFor}
 use Rattle.scene.specs.declared.Mode.{Mode}
 
@@ -40,28 +40,19 @@ module _ {A : Type 0} (z : A) where
 
 module _ (mode : Mode) (n k : ℕ) (text : Bytes) where
   -- the entries that it uses fit
-  pub used-numbers : (x : Reading) → read (settingsFor mode n k) text ≡ x → length (flat text (records (entries x))) ≤ n
+  pub used-numbers : (x : Reading) → readStatements (settingsFor mode n k) text ≡ x → length (flat text (records (entries x))) ≤ n
   unfolding flat records recordsFrom
   used-numbers (refused m p) e = omega arith
   used-numbers (accepted es) e =
       let f = fit-forth (settingsFor mode n k) (statements es) (accept-forth (settingsFor mode n k) text es e .2) in
       omega (arith, f .1, flat-length text (records es), records-length [] es, statements-length es)
 
-  pub used-reals : (x : Reading) → read (settingsFor mode n k) text ≡ x → length (realTable (entries x)) ≤ k
+  pub used-reals : (x : Reading) → readStatements (settingsFor mode n k) text ≡ x → length (realTable (entries x)) ≤ k
   unfolding reals statements
   used-reals (refused m p) e = omega arith
   used-reals (accepted es) e =
       let f = fit-forth (settingsFor mode n k) (statements es) (accept-forth (settingsFor mode n k) text es e .2) in
       omega (arith, f .2, reals-length (statements es))
-
-  -- they are as long as they were lent
-  pub numbers-kept : length (recordImage text n (read (settingsFor mode n k) text)) ≡ n
-  unfolding recordImage
-  numbers-kept = sym (filled-length 0 n (flat text (records (entries (read (settingsFor mode n k) text)))) (used-numbers _ refl))
-
-  pub reals-kept : length (realImage k (read (settingsFor mode n k) text)) ≡ k
-  unfolding realImage
-  reals-kept = sym (filled-length zeroReal k (realTable (entries (read (settingsFor mode n k) text))) (used-reals _ refl))
 
 -- a refused one leaves zeros
 pub zero-records : (text : Bytes) (k n p : ℕ) → replicate k 0 ≡ recordImage text k (refused n p)

@@ -14,6 +14,7 @@ pub mod IndependentLaws
 pub mod BlockLaws
 pub mod TellsLaws
 pub mod ExchangeLaws
+pub mod FilledLaws
 pub mod FlatLaws
 pub mod ImageLaws
 pub mod GrowLaws

@@ -26,7 +26,7 @@ use Rattle.scene.proofs.SwapLaws.{Linked, linked-split, bodyLink}
 use Rattle.scene.specs.HouseRules.{breach}
 use Rattle.scene.specs.Links.{hits, found, head, definition, resolve, through, bodyOf, ownBody, typeIn, realsIn}
 use Rattle.scene.specs.Phase.{Part, atType, atName, atStringCount, atString, atIntegerCount, atRealCount, atReal, atAliasName, atTarget, Phase, idle, busy, Turn, fault, onto, ends, typed, strings, stringCount, integerCount, reals, realCount, real, turn, Outcome, refuse, into, done, outcome, taken, unlessFault, word}
-use Rattle.scene.specs.Reading.{Move, keep, first, command, ended, targetTest, test, Entry, Going, State, stopped, going, statements, settle, advance, initial, accepted, newline, read}
+use Rattle.scene.specs.Reading.{Move, keep, first, command, ended, targetTest, test, Entry, Going, State, stopped, going, statements, settle, advance, initial, accepted, newline, readStatements}
 use Rattle.scene.specs.Record.{realTable}
 use Rattle.scene.specs.declared.Mode.{Mode}
 use Rattle.scene.specs.declared.Settings.{Settings}
@@ -178,7 +178,7 @@ advance-meant r g (first b) o h = h
 advance-meant r g command o h = tt
 advance-meant r g (ended w) o h = settle-meant g (word r (g .phase) w) (test r (statements (g .above)) (g .phase) w) h (word-meant r (g .phase) w (h .0))
 
-pub accepted-meant : (r : Settings) (text : Bytes) (es : List Entry) → read r text ≡ accepted es → AllMeant (statements es)
+pub accepted-meant : (r : Settings) (text : Bytes) (es : List Entry) → readStatements r text ≡ accepted es → AllMeant (statements es)
 unfolding statements
 accepted-meant r text es e =
     let i = (read-inv r text es e) .1 in
@@ -208,7 +208,7 @@ unfolding record·.reals
 finite-reals [] m = tt
 finite-reals (s ∷ d) m = finite-append (record·.reals d) (realsIn (s .body)) (finite-reals d (m .1)) (finite-body (s .body) (m .0))
 
-pub accepted-finite : (r : Settings) (text : Bytes) (es : List Entry) → read r text ≡ accepted es → AllFinite (realTable es)
+pub accepted-finite : (r : Settings) (text : Bytes) (es : List Entry) → readStatements r text ≡ accepted es → AllFinite (realTable es)
 accepted-finite r text es e = finite-reals (statements es) (accepted-meant r text es e)
 
 -- ---- every alias's type is from 10 to 25
@@ -240,8 +240,16 @@ pub meant-split : (l : List Statement) (s : Statement) (d : List Statement) → 
 meant-split [] s d h = h
 meant-split (x ∷ l) s d h = meant-split l s d (h .1)
 
-pub alias-type : (r : Settings) (text : Bytes) (es : List Entry) → read r text ≡ accepted es → (later : List Statement) (s : Statement) (earlier : List Statement) → statements es ≡ later ++ s ∷ earlier → (x : Bytes) → s .body ≡ alias x → NoSurface (typeIn (ownBody (s .body) earlier))
+pub alias-type : (r : Settings) (text : Bytes) (es : List Entry) → readStatements r text ≡ accepted es → (later : List Statement) (s : Statement) (earlier : List Statement) → statements es ≡ later ++ s ∷ earlier → (x : Bytes) → s .body ≡ alias x → NoSurface (typeIn (ownBody (s .body) earlier))
 alias-type r text es e later s earlier q x b =
     let l = (linked-split later (s ∷ earlier) (subst Linked q (accepted-linked r text es e))) .1 in
     let m = meant-split later s earlier (subst AllMeant q (accepted-meant r text es e)) in
     subst (λ (y : Body). NoSurface (typeIn (ownBody y earlier))) (sym b) (not-surface (typeIn (bodyOf (resolve x earlier))) (resolved-type earlier (l .1) (m .1) x (subst (bodyLink earlier) b (l .0 .body))) (resolved-no-surface x earlier))
+
+-- every statement's type, its target's if it is an alias, is one of the 25
+pub own-type : (r : Settings) (text : Bytes) (es : List Entry) → readStatements r text ≡ accepted es → (later : List Statement) (s : Statement) (earlier : List Statement) → statements es ≡ later ++ s ∷ earlier → IsType (typeIn (ownBody (s .body) earlier))
+own-type r text es reads later s earlier q = go (s .body) refl
+  where
+    go : (b : Body) → s .body ≡ b → IsType (typeIn (ownBody b earlier))
+    go (primitive t ss rs) b = (subst Meant b ((meant-split later s earlier (subst AllMeant q (accepted-meant r text es reads))) .0)) .0
+    go (alias x) b = let h = subst (λ (z : Body). NoSurface (typeIn (ownBody z earlier))) b (alias-type r text es reads later s earlier q x b) in (omega (arith, h .0), h .1)

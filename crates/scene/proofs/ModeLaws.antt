@@ -13,7 +13,7 @@ use Rattle.lexer.specs.Word.{wordFault}
 use Rattle.scene.proofs.EdgeLaws.{run-stopped}
 use Rattle.scene.specs.Archive.{inMode, ArchiveLaw, OnlyRetiredDiffer}
 use Rattle.scene.specs.Phase.{Part, atType, atName, atStringCount, atString, atIntegerCount, atRealCount, atReal, atAliasName, atTarget, Phase, idle, busy, Turn, fault, onto, typed, turn, Outcome, refuse, outcome, taken, unlessFault, word}
-use Rattle.scene.specs.Reading.{Move, keep, first, command, ended, move, partTest, test, Going, State, stopped, going, statements, settle, advance, feed, run, initial, refused, accepted, finish, newline, read}
+use Rattle.scene.specs.Reading.{Move, keep, first, command, ended, move, partTest, test, Going, State, stopped, going, statements, settle, advance, feed, run, initial, refused, accepted, finish, newline, readStatements}
 use Rattle.scene.specs.Statement.{Statement}
 use Rattle.scene.specs.Types.{typeNumber, isRetired}
 use Rattle.scene.specs.declared.Mode.the-variants.{New, Archive}
@@ -108,7 +108,7 @@ module _ (r : Settings) where
       go (inr (p, e)) h = inr (p, ap (λ (Y : State). run new Y t) e ∙ run-stopped new 28 p t)
 
 pub only-retired : OnlyRetiredDiffer
-unfolding read
+unfolding readStatements
 only-retired r text = go (leb (length text) 65536) (run-alike r (text ++ newline) initial)
   where
     go : (b : Bool) {X Y : State} → Alike r X Y → (cond b (finish (length text) X) (refused 1 0) ≡ cond b (finish (length text) Y) (refused 1 0)) ⊎ ((p : ℕ) × (cond b (finish (length text) X) (refused 1 0) ≡ refused 28 p))
@@ -119,6 +119,6 @@ only-retired r text = go (leb (length text) 65536) (run-alike r (text ++ newline
 pub archive-law : ArchiveLaw
 archive-law r text es e = go (only-retired r text)
   where
-    go : (read (inMode New r) text ≡ read (inMode Archive r) text) ⊎ ((p : ℕ) × (read (inMode New r) text ≡ refused 28 p)) → read (inMode Archive r) text ≡ accepted es
+    go : (readStatements (inMode New r) text ≡ readStatements (inMode Archive r) text) ⊎ ((p : ℕ) × (readStatements (inMode New r) text ≡ refused 28 p)) → readStatements (inMode Archive r) text ≡ accepted es
     go (inl h) = sym h ∙ e
     go (inr (p, h)) = let z : _≡_ {A = ℕ} 0 1 = cc in absurd (omega arith)

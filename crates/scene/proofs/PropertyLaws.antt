@@ -16,7 +16,7 @@ use Rattle.scene.proofs.SwapLaws.{hits-of, hits-true, latest-le, Linked
 use Rattle.scene.proofs.TellsLaws.{At, at, nth-at, split-statements, statements-length}
 use Rattle.scene.specs.Links.{gives, hits, found, latest, head, definition, firstLater, orElse, modifierLink, targetLink}
 use Rattle.scene.specs.Properties.{numbered, Named, LatestBelow, NextAbove}
-use Rattle.scene.specs.Reading.{Entry, accepted, read, statements, modifierTest, targetTest}
+use Rattle.scene.specs.Reading.{Entry, accepted, readStatements, statements, modifierTest, targetTest}
 use Rattle.scene.specs.Record.{Record, nth, records, recordOf, nextOf}
 use Rattle.scene.specs.declared.Settings.{Settings}
 use Rattle.scene.specs.Statement.{Statement, Literal, Body, primitive, alias, void}
@@ -161,10 +161,10 @@ pub target-defined : (o : Option Statement) → targetTest o ≡ 0 → (t : Stat
 target-defined none e = absurd (omega arith)
 target-defined (some t) e = (t, refl)
 
-pub accepted-linked : (r : Settings) (text : Bytes) (es : List Entry) → read r text ≡ accepted es → Linked (statements es)
+pub accepted-linked : (r : Settings) (text : Bytes) (es : List Entry) → readStatements r text ≡ accepted es → Linked (statements es)
 accepted-linked r text es e = fit-forth r (statements es) ((accept-forth r text es e) .2) .0
 
-module _ (r : Settings) (text : Bytes) (es : List Entry) (reads : read r text ≡ accepted es) (k : ℕ) (s : Statement) (there : numbered (statements es) k ≡ some s) where
+module _ (r : Settings) (text : Bytes) (es : List Entry) (reads : readStatements r text ≡ accepted es) (k : ℕ) (s : Statement) (there : numbered (statements es) k ≡ some s) where
   range : (0 < k) × (k ≤ length es)
   range = let h = numbered-range (statements es) k s there in (h .0, omega (arith, h .1, statements-length es))
 

@@ -11,14 +11,14 @@ use lib.ListN.{length, length-append}
 use Rattle.laws.specs.Bytes.{Bytes}
 use Rattle.scene.proofs.EdgeLaws.{part-noted, IsWithin, OkScan, OkMove, move-ok}
 use Rattle.scene.specs.Phase.{Phase, idle, busy, Outcome, refuse, into, done, word}
-use Rattle.scene.specs.Reading.{Scan, gap, comment, within, Move, keep, first, command, ended, move, test, Places, note, Entry, Going, State, stopped, going, statements, settle, advance, feed, run, initial, Reading, refused, accepted, endIn, finish, newline, read}
+use Rattle.scene.specs.Reading.{Scan, gap, comment, within, Move, keep, first, command, ended, move, test, Places, note, Entry, Going, State, stopped, going, statements, settle, advance, feed, run, initial, Reading, refused, accepted, endIn, finish, newline, readStatements}
 use Rattle.scene.specs.declared.Settings.{Settings}
 
 -- every text is accepted or refused
-pub read-or-refused : (r : Settings) (text : Bytes) → ((es : List Entry) × (read r text ≡ accepted es)) ⊎ ((n p : ℕ) × (read r text ≡ refused n p))
-read-or-refused r text = go (read r text) refl
+pub read-or-refused : (r : Settings) (text : Bytes) → ((es : List Entry) × (readStatements r text ≡ accepted es)) ⊎ ((n p : ℕ) × (readStatements r text ≡ refused n p))
+read-or-refused r text = go (readStatements r text) refl
   where
-    go : (x : Reading) → read r text ≡ x → ((es : List Entry) × (read r text ≡ accepted es)) ⊎ ((n p : ℕ) × (read r text ≡ refused n p))
+    go : (x : Reading) → readStatements r text ≡ x → ((es : List Entry) × (readStatements r text ≡ accepted es)) ⊎ ((n p : ℕ) × (readStatements r text ≡ refused n p))
     go (accepted es) e = inl (es, e)
     go (refused n p) e = inr (n, p, e)
 
@@ -61,8 +61,8 @@ run-behind r (b ∷ t) X k h =
     let e : suc k + length t ≡ k + suc (length t) = omega arith in
     subst (λ (n : ℕ). Behind n (run r (feed r X b) t)) e (run-behind r t (feed r X b) (suc k) (feed-behind r X b k h))
 
-pub refused-place : (r : Settings) (text : Bytes) (n p : ℕ) → read r text ≡ refused n p → p ≤ length text
-unfolding read
+pub refused-place : (r : Settings) (text : Bytes) (n p : ℕ) → readStatements r text ≡ refused n p → p ≤ length text
+unfolding readStatements
 refused-place r text n p = go (leb (length text) 65536)
   where
     last : (ph : Phase) (es : List Entry) → endIn ph (length text) es ≡ refused n p → p ≤ length text

@@ -17,7 +17,7 @@ use Rattle.scene.proofs.PlaceLaws.{Spelt, Spelling, spelling-start, spe
 use Rattle.scene.proofs.WordsLaws.{Spot, between, inside}
 use Rattle.scene.specs.HouseRules.{breach}
 use Rattle.scene.specs.Phase.{Part, atType, atName, atStringCount, atString, atIntegerCount, atRealCount, atReal, atAliasName, atTarget, Turn, typed, strings, stringCount, integerCount, reals, realCount, real, turn}
-use Rattle.scene.specs.Reading.{Places, notePart, Entry, newline, accepted, read}
+use Rattle.scene.specs.Reading.{Places, notePart, Entry, newline, accepted, readStatements}
 use Rattle.scene.specs.declared.Mode.{Mode}
 use Rattle.scene.specs.declared.Settings.{Settings}
 use Rattle.scene.specs.Statement.{Literal, literal, numbers, numeralWords, Body, primitive, alias, void}
@@ -187,7 +187,7 @@ kept r = record {
   read = body-more;
 }
 
-pub bodies-read : (r : Settings) (text : Bytes) (es : List Entry) → read r text ≡ accepted es → Each BodyRead (text ++ newline) es
+pub bodies-read : (r : Settings) (text : Bytes) (es : List Entry) → readStatements r text ≡ accepted es → Each BodyRead (text ++ newline) es
 bodies-read r text es e =
     let i = (read-inv r text es e) .1 in
     subst (Each BodyRead (text ++ newline)) (i .3) (run-read GapHeard WithinHeard BodyRead r (kept r) (text ++ newline) (i .0) (i .1))

@@ -16,7 +16,7 @@ use Rattle.scene.proofs.BlockLaws.{statements-append}
 use Rattle.scene.proofs.KeptLaws.{each-tail}
 use Rattle.scene.proofs.PlaceLaws.{Says, Spelt, spelt-words, EntryRead, AllRead, all-read}
 use Rattle.scene.specs.Links.{gives, hits, realsUsed, realsAdded, resolve, through, bodyOf, typeIn, stringsIn, realsIn, ownBody, modifierLink, targetLink, firstLater, source}
-use Rattle.scene.specs.Reading.{Entry, statements, newline, accepted, read}
+use Rattle.scene.specs.Reading.{Entry, statements, newline, accepted, readStatements}
 use Rattle.scene.specs.Record.{unlessNone, firstReal, nothing, stringPlace, recordOf, recordsFrom, records, reals, realTable, nth}
 use Rattle.scene.specs.declared.Settings.{Settings}
 use Rattle.scene.specs.Told.{told, tells}
@@ -220,5 +220,5 @@ pub split-statements : (es l : List Entry) (e : Entry) (x : List Entry) → es �
 unfolding statements
 split-statements es l e x q = ap statements q ∙ statements-append l (e ∷ x)
 
-pub read-read : (r : Settings) (text : Bytes) (es : List Entry) → read r text ≡ accepted es → AllRead (text ++ newline) es
+pub read-read : (r : Settings) (text : Bytes) (es : List Entry) → readStatements r text ≡ accepted es → AllRead (text ++ newline) es
 read-read r text es e = let i = (read-inv r text es e) .1 in subst (AllRead (text ++ newline)) (i .3) (all-read r (text ++ newline) (i .0) (i .1))

@@ -5,7 +5,7 @@ use Prim.Native.Nat.{ℕ, _≤_, _<_}
 use lib.ListN.{length}
 use Rattle.laws.specs.Bytes.{Bytes}
 use Rattle.scene.specs.Block.{Block, Independent, inBlock, shift}
-use Rattle.scene.specs.Reading.{Entry, accepted, read}
+use Rattle.scene.specs.Reading.{Entry, accepted, readStatements}
 use Rattle.scene.specs.Record.{records, nth, realTable}
 use Rattle.scene.specs.declared.Settings.{Settings}
 use Rattle.scene.specs.Told.{tells, renumbered}
@@ -22,7 +22,7 @@ statementsIn es p a = inBlock (length p) (length (p ++ a)) es
 -- name bytes, string counts, string bytes, real counts and real bits, in order; the new modifier link, alias target and next of
 -- the same name are the old ones shifted."
 pub record Renumbers (r : Settings) (old new : Bytes) (es es′ : List Entry) (f : ℕ → ℕ) : Type 0 where
-  pub reads : read r new ≡ accepted es′
+  pub reads : readStatements r new ≡ accepted es′
   pub primitives : length es′ ≡ length es
   pub reals : length (realTable es′) ≡ length (realTable es)
   pub rows : (n : ℕ) → 0 < n → n ≤ length es
@@ -30,7 +30,7 @@ pub record Renumbers (r : Settings) (old new : Bytes) (es es′ : List Entry) (f
 
 -- for every accepted text p ++ a ++ b ++ q with neighbouring independent blocks a and b
 pub record Exchange (r : Settings) (p a b q : Bytes) (es : List Entry) : Type 0 where
-  pub reads : read r (p ++ a ++ b ++ q) ≡ accepted es
+  pub reads : readStatements r (p ++ a ++ b ++ q) ≡ accepted es
   pub first : Block es p a
   pub second : Block es (p ++ a) b
   pub independent : Independent (statementsIn es p a) (statementsIn es (p ++ a) b)

@@ -196,7 +196,8 @@ finish len (going g) = endIn (g .phase) len (g .above)
 abbrev pub newline : Bytes
 newline = 10 ∷ []
 
--- "1 text over 65,536 bytes", at 0, "comes first". A text is read as if a line ended after it: a last word ends there, and
--- nothing else changes
-unfoldable pub read : Settings → Bytes → Reading
-read r text = cond (leb (length text) 65536) (finish (length text) (run r initial (text ++ newline))) (refused 1 0)
+-- A text read statement by statement, with every refusal that can be told before its end: those of mixtures, whose names may be
+-- defined below, come after these. "1 text over 65,536 bytes", at 0, "comes first". A text is read as if a line ended after it: a last
+-- word ends there, and nothing else changes
+unfoldable pub readStatements : Settings → Bytes → Reading
+readStatements r text = cond (leb (length text) 65536) (finish (length text) (run r initial (text ++ newline))) (refused 1 0)

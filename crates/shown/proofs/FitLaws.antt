@@ -10,20 +10,16 @@ use borrow.Author.Tests.{le-leb, lt-leb, leb-true, lt-ltb, le-ltb, ltb-true, eq-
 use lib.Dec.{eqb, leb, ltb}
 use lib.ListN.{length}
 use Rattle.graph.proofs.GraphLaws.{or-inv}
-use Rattle.graph.specs.Graph.{Graph}
+use Rattle.graph.proofs.GraphLaws.{mixture-number}
+use Rattle.graph.specs.Graph.{Graph, mixtureType}
 use Rattle.laws.proofs.BoolLaws.{and-left, and-right}
 use Rattle.laws.proofs.NatLaws.{le-or-lt}
-use Rattle.laws.specs.Bytes.{same}
 use Rattle.mixtures.specs.Walk.{Within}
-use Rattle.scene.specs.Types.{isSurface, isType, numberFrom, typeNumber}
+use Rattle.scene.specs.Types.{isSurface, isType}
 use Rattle.shown.specs.Code.{Numbered}
-use Rattle.shown.specs.List.{every, linkFits, mixtureType, pairRefusal, primitiveFits, sideFits}
+use Rattle.shown.specs.List.{every, linkFits, pairRefusal, primitiveFits, sideFits}
 use Rattle.table.specs.Question.{numberRefusal}
 use Rattle.table.specs.View.{View}
-
-mixture-number : mixtureType ≡ 25
-unfolding typeNumber numberFrom same
-mixture-number = refl
 
 -- ---- a link, and a side
 

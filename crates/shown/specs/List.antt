@@ -5,17 +5,13 @@ use Prim.Native.Nat.{ℕ, zero, suc, _*_}
 use lib.Dec.{eqb, leb, ltb}
 use lib.ListN.{length, replicate}
 use Rattle.graph.specs.Answers.{lowestLoop, shownIn}
-use Rattle.graph.specs.Graph.{Graph, graphOf}
-use Rattle.laws.specs.Bytes.{bytes}
+use Rattle.graph.specs.Graph.{Graph, graphOf, mixtureType}
 use Rattle.scene.specs.Record.{filled}
-use Rattle.scene.specs.Types.{isSurface, isType, typeNumber}
+use Rattle.scene.specs.Types.{isSurface, isType}
 use Rattle.shown.specs.declared.Shown.{Shown}
 use Rattle.shown.specs.declared.Shown.the-variants.{Listed, Refused}
 use Rattle.table.specs.Question.{numberRefusal}
 use Rattle.table.specs.View.{View}
-
-abbrev pub mixtureType : ℕ
-mixtureType = typeNumber (bytes "mixfunc")
 
 -- "link to a surface"
 unfoldable pub linkFits : View → (m : ℕ) → Bool

@@ -10,15 +10,20 @@ use lib.Dec.{eqb}
 use lib.ListN.{getD, length}
 use Rattle.laws.proofs.BoolLaws.{and-left, and-right}
 use Rattle.laws.specs.Bytes.{Bytes, same}
-use Rattle.lexer.specs.Word.{wordAt}
+use Rattle.lexer.specs.Word.{wordAt, wordEnd}
 use Rattle.scene.proofs.RenumberLaws.{Renamed}
+use Rattle.scene.proofs.TellsLaws.{statements-length}
 use Rattle.scene.specs.Links.{latest}
-use Rattle.scene.specs.Reading.{Entry, Places, statements}
+use Rattle.scene.specs.Reading.{Entry, Places, accepted, readStatements, statements}
 use Rattle.scene.specs.Statement.{Body, Statement, alias, primitive, void}
-use Rattle.sides.specs.Mixed.{firstUnknown, isKnown, orFirst, unknownIn}
-use Rattle.sides.specs.Sides.{mixtureType}
+use Rattle.scene.specs.declared.Settings.{Settings}
+use Rattle.sides.proofs.MixedLaws.{resolved, resolves}
+use Rattle.sides.specs.Read.{firstUnknown, isKnown, orFirst, read, unknownIn}
+use Rattle.sides.specs.Sides.{sceneGraph}
+use Rattle.graph.specs.Answers.{lowestLoop}
+use Rattle.graph.specs.Graph.{mixtureType}
 
-abbrev bodyKnown : (whole : List Statement) → Body → Bool
+abbrev pub bodyKnown : (whole : List Statement) → Body → Bool
 bodyKnown D (primitive t ss rs) = cond (eqb t mixtureType) (isKnown (getD ss 0 void) D && isKnown (getD ss 1 void) D) true
 bodyKnown D (alias x) = true
 
@@ -37,7 +42,7 @@ is-none p e = subst Is e tt
 
 body-none : (text : Bytes) (D : List Statement) (k : Places) (b : Body) → unknownIn text D k b ≡ none → bodyKnown D b ≡ true
 body-none text D k (alias x) e = refl
-body-none text D k (primitive t ss rs) e = go (wordAt text (k .string + length (getD ss 0 void)) .place) (k .string) (eqb t mixtureType) (isKnown (getD ss 0 void) D) (isKnown (getD ss 1 void) D) e
+body-none text D k (primitive t ss rs) e = go (wordAt text (wordEnd text (k .string)) .place) (k .string) (eqb t mixtureType) (isKnown (getD ss 0 void) D) (isKnown (getD ss 1 void) D) e
   where
     go : (p q : ℕ) (x y z : Bool) → _≡_ {A = Option ℕ} (cond x (cond y (cond z none (some p)) (some q)) none) none → cond x (y && z) true ≡ true
     go p q false y z e = refl
@@ -45,9 +50,9 @@ body-none text D k (primitive t ss rs) e = go (wordAt text (k .string + length (
     go p q true true false e = absurd (is-none p e)
     go p q true false z e = absurd (is-none q e)
 
-none-body : (text : Bytes) (D : List Statement) (k : Places) (b : Body) → bodyKnown D b ≡ true → unknownIn text D k b ≡ none
+pub none-body : (text : Bytes) (D : List Statement) (k : Places) (b : Body) → bodyKnown D b ≡ true → unknownIn text D k b ≡ none
 none-body text D k (alias x) e = refl
-none-body text D k (primitive t ss rs) e = go (wordAt text (k .string + length (getD ss 0 void)) .place) (k .string) (eqb t mixtureType) (isKnown (getD ss 0 void) D) (isKnown (getD ss 1 void) D) e
+none-body text D k (primitive t ss rs) e = go (wordAt text (wordEnd text (k .string)) .place) (k .string) (eqb t mixtureType) (isKnown (getD ss 0 void) D) (isKnown (getD ss 1 void) D) e
   where
     go : (p q : ℕ) (x y z : Bool) → cond x (y && z) true ≡ true → _≡_ {A = Option ℕ} (cond x (cond y (cond z none (some p)) (some q)) none) none
     go p q false y z e = refl
@@ -92,7 +97,7 @@ module _ {f : ℕ → ℕ} {D D′ : List Statement} (R : Renamed f D D′) wher
       go true e = λ i. name-on (getD ss 0 void) (and-left (isKnown (getD ss 0 void) D) (isKnown (getD ss 1 void) D) e) i && name-on (getD ss 1 void) (and-right (isKnown (getD ss 0 void) D) (isKnown (getD ss 1 void) D) e) i
 
 -- each statement of a list is known where the whole list is
-known-here : (W l : List Statement) (s : Statement) (d : List Statement) → allKnown W (l ++ s ∷ d) ≡ true → bodyKnown W (s .body) ≡ true
+pub known-here : (W l : List Statement) (s : Statement) (d : List Statement) → allKnown W (l ++ s ∷ d) ≡ true → bodyKnown W (s .body) ≡ true
 unfolding allKnown
 known-here W [] s d e = and-left (bodyKnown W (s .body)) (allKnown W d) e
 known-here W (x ∷ l) s d e = known-here W l s d (and-right (bodyKnown W (x .body)) (allKnown W (l ++ s ∷ d)) e)
@@ -108,3 +113,17 @@ known-stay {f} {g} {D} {D′} R S e = go [] D′ refl
     go : (l d : List Statement) → D′ ≡ l ++ d → allKnown D′ d ≡ true
     go l [] q = refl
     go l (s ∷ d) q = λ i. one l s d q i && go (l ++ s ∷ []) d (q ∙ sym (append-assoc l (s ∷ []) d)) i
+
+-- ---- a text of the same statements is accepted with it
+
+pub same-accepted : (r : Settings) (text text′ : Bytes) (es es′ : List Entry) → read r text ≡ accepted es → readStatements r text′ ≡ accepted es′ → statements es′ ≡ statements es → read r text′ ≡ accepted es′
+same-accepted r text text′ es es′ e q same =
+    let h = resolved r text es e in
+    let D = statements es in
+    let known : allKnown D D ≡ true = first-known text D es (h .known) in
+    let size : length es′ ≡ length es = sym (statements-length es′) ∙ ap length same ∙ statements-length es in
+    resolves r text′ es′ (record {
+      reads = q;
+      known = known-first text′ (statements es′) es′ (subst (λ (z : List Statement). allKnown z z ≡ true) (sym same) known);
+      loopless = (λ i. lowestLoop (sceneGraph (same i)) (size i)) ∙ h .loopless;
+    })

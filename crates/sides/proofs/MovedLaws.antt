@@ -11,7 +11,7 @@ use borrow.Author.Tests.{eqb-true}
 use Rattle.graph.proofs.GraphLaws.{Among, link-inv, link-of}
 use Rattle.graph.proofs.LowestLaws.{lowest-none, lowest-passes}
 use Rattle.graph.specs.Answers.{leads, looped, lowest, lowestLoop}
-use Rattle.graph.specs.Graph.{Sides, goesFrom, goesOn, link, links}
+use Rattle.graph.specs.Graph.{Sides, goesFrom, goesOn, link, links, mixtureType}
 use Rattle.graph.specs.Paths.{Way, on, one}
 use Rattle.laws.specs.Bytes.{Bytes, same}
 use Rattle.mixtures.proofs.LeadLaws.{leads-path, within-bound}
@@ -22,7 +22,7 @@ use Rattle.scene.specs.Statement.{Statement, void}
 use Rattle.scene.specs.Told.{Told, renumbered, told}
 use Rattle.sides.proofs.SideLaws.{from-here, found-at, scene-within, stands}
 use Rattle.sides.specs.Exchange.{renumberedSides}
-use Rattle.sides.specs.Sides.{fromNumber, mixtureType, nodeAt, sceneGraph, sides, sidesAt, sidesIn, sidesOf}
+use Rattle.sides.specs.Sides.{fromNumber, nodeAt, sceneGraph, sides, sidesAt, sidesIn, sidesOf}
 
 -- what a statement leads to
 abbrev linksAt : (whole : List Statement) → List Statement → List ℕ

@@ -4,11 +4,12 @@ use mathlib.Core.List.{List, [], _∷_, _++_}
 use mathlib.Core.Logic.{_⊎_, inl, inr}
 use mathlib.Core.Path.{_≡_, refl, ap, sym, _∙_, subst}
 use Prim.Native.Nat.{ℕ, zero, suc, _+_, _-_, _*_, _≤_, _<_}
+use native.Mathlib.Nat.{sub-zero}
 use native.Mathlib.Omega.{arith}
 use borrow.Author.Tests.{eq-eqb, eqb-true, ne-eqb}
 use lib.Dec.{eqb}
 use lib.ListN.{getD, length, length-append, replicate, List·getD-append, List·getD-eq-default}
-use Rattle.graph.specs.Graph.{Sides, graphOf, sideIn}
+use Rattle.graph.specs.Graph.{Sides, graphOf, mixtureType, sideIn}
 use Rattle.laws.proofs.NatLaws.{le-or-lt}
 use Rattle.laws.specs.Bytes.{Bytes, same}
 use Rattle.scene.proofs.FlatLaws.{record-in}
@@ -16,10 +17,10 @@ use Rattle.scene.proofs.SwapLaws.{latest-le}
 use Rattle.scene.proofs.TellsLaws.{At, at, nth-at, records-length, split-statements, statements-length}
 use Rattle.mixtures.specs.Walk.{Within}
 use Rattle.scene.specs.Links.{latest, modifierLink, ownBody, stringsIn, typeIn}
-use Rattle.scene.specs.Reading.{Entry, accepted, statements}
+use Rattle.scene.specs.Reading.{Entry, accepted, refused, statements}
 use Rattle.scene.specs.Record.{Record, filled, nothing, nth, recordImage, recordIn, recordOf, records, recordsFrom}
 use Rattle.scene.specs.Statement.{Statement, void}
-use Rattle.sides.specs.Sides.{fromNumber, mixtureType, nodeAt, pairImage, pairOf, pairs, pairsFrom, sceneGraph, sides, sidesAt, sidesIn, sidesOf}
+use Rattle.sides.specs.Sides.{fromNumber, nodeAt, pairImage, pairOf, pairs, pairsFrom, sceneGraph, sides, sidesAt, sidesIn, sidesOf}
 use Rattle.table.specs.View.{Node}
 
 -- ---- the statement of a number
@@ -185,7 +186,7 @@ nth-outside es zero h = refl
 nth-outside es (suc n) (inl z) = absurd (omega arith)
 nth-outside es (suc n) (inr l) = List·getD-eq-default (recordsFrom [] es) nothing {n = n} (let k = records-length [] es in omega arith)
 
-from-entry : (es l : List Entry) (e : Entry) (x : List Entry) (n : ℕ) → es ≡ l ++ e ∷ x → n ≡ suc (length x) → fromNumber (statements es) n ≡ e .statement ∷ statements x
+pub from-entry : (es l : List Entry) (e : Entry) (x : List Entry) (n : ℕ) → es ≡ l ++ e ∷ x → n ≡ suc (length x) → fromNumber (statements es) n ≡ e .statement ∷ statements x
 from-entry es l e x n q m =
     let k : n ≡ suc (length (statements x)) = omega (arith, m, statements-length x) in
     (λ i. fromNumber (split-statements es l e x q i) (k i)) ∙ from-here (statements l) (e .statement) (statements x)
@@ -217,3 +218,8 @@ tables-graph text es lent room = λ i. record {
   nodes = λ n. (ap node (record-in text (records es) lent n) ∙ node-at es n) i;
   sides = λ n. sides ((side-filled (pairsFrom (statements es) (statements es)) room n 0 ∙ pair-at (statements es) (statements es) n 0 (omega arith)) i) ((side-filled (pairsFrom (statements es) (statements es)) room n 1 ∙ pair-at (statements es) (statements es) n 1 (omega arith)) i);
 }
+
+-- "Any refusal here zeroes all tables"
+pub zero-pairs : (k n p : ℕ) → replicate k 0 ≡ pairImage k (refused n p)
+unfolding pairImage pairs pairsFrom statements
+zero-pairs k n p = ap (λ (m : ℕ). replicate m 0) (sym (sub-zero k))

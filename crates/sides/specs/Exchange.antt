@@ -11,12 +11,12 @@ use Rattle.scene.specs.Block.{Block, Independent}
 use Rattle.scene.specs.Exchange.{Renumbers, exchangeShift, statementsIn}
 use Rattle.scene.specs.Reading.{Entry, accepted, statements}
 use Rattle.scene.specs.declared.Settings.{Settings}
-use Rattle.sides.specs.Mixed.{readMixed}
+use Rattle.sides.specs.Read.{read}
 use Rattle.sides.specs.Sides.{sceneGraph, sides}
 
 -- for every text p ++ a ++ b ++ q that is accepted with its mixtures resolved, with neighbouring independent blocks a and b
 pub record MixedExchange (r : Settings) (p a b q : Bytes) (es : List Entry) : Type 0 where
-  pub reads : readMixed r (p ++ a ++ b ++ q) ≡ accepted es
+  pub reads : read r (p ++ a ++ b ++ q) ≡ accepted es
   pub first : Block es p a
   pub second : Block es (p ++ a) b
   pub independent : Independent (statementsIn es p a) (statementsIn es (p ++ a) b)
@@ -28,7 +28,7 @@ renumberedSides f s = sides (f (s .foreground)) (f (s .background))
 -- show the shifted m exactly where n might show m
 pub record MixedExchanged (r : Settings) (p a b q : Bytes) (es : List Entry) : Type 0 where
   pub entries : List Entry
-  pub reads : readMixed r (p ++ b ++ a ++ q) ≡ accepted entries
+  pub reads : read r (p ++ b ++ a ++ q) ≡ accepted entries
   pub renumbers : Renumbers r (p ++ a ++ b ++ q) (p ++ b ++ a ++ q) es entries (exchangeShift es p a b)
   pub pairs : (n : ℕ) → 0 < n → n ≤ length es
       → sceneGraph (statements entries) .sides (exchangeShift es p a b n) ≡ renumberedSides (exchangeShift es p a b) (sceneGraph (statements es) .sides n)

@@ -1,4 +1,4 @@
 -- To be believed.
 pub mod Sides
-pub mod Mixed
+pub mod Read
 pub mod Exchange

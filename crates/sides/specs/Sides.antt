@@ -4,17 +4,13 @@ use mathlib.Core.List.{List, [], _∷_, _++_}
 use Prim.Native.Nat.{ℕ, suc}
 use lib.Dec.{eqb}
 use lib.ListN.{getD, length}
-use Rattle.graph.specs.Graph.{Graph, Sides}
-use Rattle.laws.specs.Bytes.{Bytes, bytes}
+use Rattle.graph.specs.Graph.{Graph, Sides, mixtureType}
+use Rattle.laws.specs.Bytes.{Bytes}
 use Rattle.scene.specs.Links.{modifierLink, ownBody, stringsIn, typeIn}
 use Rattle.scene.specs.Reading.{Reading, statements}
 use Rattle.scene.specs.Record.{entries, filled}
 use Rattle.scene.specs.Statement.{Statement, void}
-use Rattle.scene.specs.Types.{typeNumber}
 use Rattle.table.specs.View.{Node}
-
-abbrev pub mixtureType : ℕ
-mixtureType = typeNumber (bytes "mixfunc")
 
 abbrev pub sides : (foreground background : ℕ) → Sides
 sides f b = record { foreground = f; background = b }

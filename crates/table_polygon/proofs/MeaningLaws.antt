@@ -15,12 +15,13 @@ use Rattle.polygon.specs.Polygon.{polygonHit}
 use Rattle.scene.proofs.TellsLaws.{nth-at, own, read-read, tells-told}
 use Rattle.scene.specs.HouseRules.{zeroReal}
 use Rattle.scene.specs.Links.{bodyOf, ownBody, realsIn, source, typeIn}
-use Rattle.scene.specs.Reading.{Entry, Reading, accepted, read, statements}
+use Rattle.scene.specs.Reading.{Entry, Reading, accepted, readStatements, statements}
 use Rattle.scene.specs.Record.{Record, firstReal, realImage, realTable, recordImage, recordIn, recordOf, settingsFor, width}
 use Rattle.scene.specs.Statement.{Body, Statement}
 use Rattle.scene.specs.Told.{Told, realsOf, tells, told}
 use Rattle.scene.specs.declared.Mode.{Mode}
 use Rattle.scene.specs.declared.Settings.{Settings}
+use Rattle.sides.proofs.MixedLaws.{resolved, same-reading}
 use Rattle.table.proofs.ImageLaws.{image-row, number-fine}
 use Rattle.table.specs.Question.{numberRefusal}
 use Rattle.table_polygon.specs.InTable.{cornersTest, hitInTable, polygonRefusal, polygonType}
@@ -42,9 +43,9 @@ longer table more k n h = ap (take n) (drop-append-le k table more (omega arith)
 
 -- ---- a primitive of the table
 
-module _ (mode : Mode) (text : Bytes) (lent doubles : ℕ) (es : List Entry) (reads : read (settingsFor mode lent doubles) text ≡ accepted es) (l : List Entry) (e : Entry) (x : List Entry) (q : es ≡ l ++ e ∷ x) where
+module _ (mode : Mode) (text : Bytes) (lent doubles : ℕ) (es : List Entry) (reads : readStatements (settingsFor mode lent doubles) text ≡ accepted es) (l : List Entry) (e : Entry) (x : List Entry) (q : es ≡ l ++ e ∷ x) where
   abbrev reading : Reading
-  reading = read (settingsFor mode lent doubles) text
+  reading = readStatements (settingsFor mode lent doubles) text
 
   abbrev rows : List ℕ
   rows = recordImage text lent reading
@@ -95,4 +96,7 @@ module _ (mode : Mode) (text : Bytes) (lent doubles : ℕ) (es : List Entry) (re
   }
 
 pub meaning : MeaningLaw
-meaning mode text lent doubles es reads l e x q least ray = means mode text lent doubles es reads l e x q least ray
+meaning mode text lent doubles es reads l e x q least ray =
+    let s = settingsFor mode lent doubles in
+    subst (λ (z : Reading). Means (hitInTable least ray (recordImage text lent z) (length es) (suc (length x)) (realImage doubles z)) least ray (ownBody (e .statement .body) (statements x))) (same-reading s text es reads)
+    (means mode text lent doubles es (resolved s text es reads .reads) l e x q least ray)

@@ -9,10 +9,11 @@ use Rattle.hits.specs.declared.Ray.{Ray}
 use Rattle.laws.specs.Bytes.{Bytes}
 use Rattle.polygon.specs.Polygon.{polygonHit}
 use Rattle.scene.specs.Links.{ownBody, realsIn, typeIn}
-use Rattle.scene.specs.Reading.{Entry, accepted, read, statements}
+use Rattle.scene.specs.Reading.{Entry, accepted, statements}
 use Rattle.scene.specs.Record.{realImage, recordImage, settingsFor}
 use Rattle.scene.specs.Statement.{Body}
 use Rattle.scene.specs.declared.Mode.{Mode}
+use Rattle.sides.specs.Read.{read}
 use Rattle.table_polygon.specs.InTable.{hitInTable, polygonType}
 
 -- asked about in the tables that the reader gave for an accepted text, a polygon is hit where the reals of its statement say; every

@@ -22,7 +22,7 @@ fn print_tidy(mode: Mode, number: usize, text: &[u8], records: &[u32], reals: &[
 fn tidy(mode: Mode, number: usize, text: &[u8]) -> bool {
     let mut records = [0u32; table::MOST_NUMBERS];
     let mut reals = [0.0f64; table::MOST_REALS];
-    match reader::read_with_own_index(mode, text, &mut records, &mut reals) {
+    match reader::read_with_own_tables(mode, text, &mut records, &mut reals) {
         Answer::Accepted(_, _) => print_tidy(mode, number, text, &records, &reals),
         Answer::Refused(reason, place) => {
             refuse(number, reason, place, line_numbers::line_at(text, place))

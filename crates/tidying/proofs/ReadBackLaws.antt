@@ -11,10 +11,13 @@ use Rattle.scene.proofs.BlockLaws.{join, statements-append}
 use Rattle.scene.proofs.SyntaxLaws.{pass, parse, Sound}
 use Rattle.scene.specs.Links.{modifierLink, targetLink, source, ownBody, typeIn, stringsIn, realsIn}
 use Rattle.scene.specs.Phase.{idle}
-use Rattle.scene.specs.Reading.{gap, Entry, statements, accepted, read, newline}
+use Rattle.scene.specs.Reading.{gap, Entry, statements, accepted, readStatements, newline}
 use Rattle.scene.specs.Record.{Record, firstReal, nextOf, recordOf, recordsFrom, records, reals}
 use Rattle.scene.specs.declared.Settings.{Settings}
 use Rattle.scene.specs.Statement.{Statement}
+use Rattle.sides.proofs.KnownLaws.{same-accepted}
+use Rattle.sides.proofs.MixedLaws.{resolved}
+use Rattle.sides.specs.Sides.{pairs}
 use Rattle.tidying.proofs.ProperLaws.{StepProper, parse-proper}
 use Rattle.tidying.proofs.StatementLaws.{statement-read}
 use Rattle.tidying.specs.Proper.{AllProper}
@@ -29,12 +32,12 @@ tidy-parse r [] h = refl
 tidy-parse r (s ∷ d) h = join r (tidy d) (statementText s) d (s ∷ []) (tidy-parse r d (h .1)) (statement-read r s (h .0))
 
 -- the tidy text of proper and sound statements reads as they are
-pub tidy-reads : (r : Settings) (d : List Statement) → AllProper (r .mode) d → Sound r d → length (tidy d) ≤ 65536 → (es : List Entry) × (read r (tidy d) ≡ accepted es) × (statements es ≡ d)
+pub tidy-reads : (r : Settings) (d : List Statement) → AllProper (r .mode) d → Sound r d → length (tidy d) ≤ 65536 → (es : List Entry) × (readStatements r (tidy d) ≡ accepted es) × (statements es ≡ d)
 unfolding parse isBlank
 tidy-reads r d h s fits = accept-back r (tidy d) d (le-leb (length (tidy d)) 65536 fits) (join r (tidy d) newline d [] (tidy-parse r d h) refl) s
 
 -- what was accepted is proper
-pub accepted-proper : (r : Settings) (text : Bytes) (es : List Entry) → read r text ≡ accepted es → AllProper (r .mode) (statements es)
+pub accepted-proper : (r : Settings) (text : Bytes) (es : List Entry) → readStatements r text ≡ accepted es → AllProper (r .mode) (statements es)
 accepted-proper r text es e = subst (StepProper r) (accept-forth r text es e .1) (parse-proper r (text ++ newline) gap idle tt tt) .2
 
 -- ---- the table
@@ -81,5 +84,13 @@ same-table es es′ e = table-placeless [] es ∙ ap (placelessFrom []) e ∙ sy
 
 pub read-back : ReadBackLaw
 read-back r text es e fits =
-    let b = tidy-reads r (statements es) (accepted-proper r text es e) (accept-forth r text es e .2) fits in
-    record { entries = b .0; reads = b .1; meant = b .2; table = same-table (b .0) es (b .2); reals = ap reals (b .2) }
+    let i = resolved r text es e .reads in
+    let b = tidy-reads r (statements es) (accepted-proper r text es i) (accept-forth r text es i .2) fits in
+    record {
+      entries = b .0;
+      reads = same-accepted r text (tidy (statements es)) es (b .0) e (b .1) (b .2);
+      meant = b .2;
+      table = same-table (b .0) es (b .2);
+      reals = ap reals (b .2);
+      sides = ap pairs (b .2);
+    }

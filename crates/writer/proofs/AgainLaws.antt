@@ -9,10 +9,11 @@ use Rattle.bits.specs.Bits.{sameReals}
 use Rattle.fresh.specs.Fresh.{tablesMatch}
 use Rattle.laws.proofs.BytesLaws.{same-refl}
 use Rattle.laws.specs.Bytes.{Bytes, same}
-use Rattle.scene.proofs.ImageLaws.{numbers-kept, reals-kept}
-use Rattle.scene.specs.Reading.{Entry, Reading, accepted, read, statements}
+use Rattle.scene.specs.Reading.{Entry, Reading, accepted, statements}
 use Rattle.scene.specs.Record.{recordImage, realImage, settingsFor}
 use Rattle.scene.specs.declared.Mode.{Mode}
+use Rattle.sides.proofs.FitLaws.{numbers-kept, reals-kept}
+use Rattle.sides.specs.Read.{read}
 use Rattle.tidying.proofs.ReadBackLaws.{read-back}
 use Rattle.tidying.specs.Tidy.{tidy}
 use Rattle.writer.specs.Answer.{refused, fitted, outcomeOf}

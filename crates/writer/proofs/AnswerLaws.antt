@@ -25,10 +25,12 @@ use Rattle.reader.specs.Answer.{readInto}
 use Rattle.record_text.proofs.RowLaws.{written}
 use Rattle.record_text.specs.RecordText.{recordTexts}
 use Rattle.scene.specs.Reading as reading
-use Rattle.scene.specs.Reading.{Reading, accepted, read, statements}
+use Rattle.scene.specs.Reading.{Reading, accepted, statements}
 use Rattle.scene.specs.Record.{filled, recordImage, realImage, settingsFor}
 use Rattle.scene.specs.declared.Mode.{Mode}
 use Rattle.scene.specs.declared.Settings.{Settings}
+use Rattle.sides.proofs.MixedLaws.{resolved}
+use Rattle.sides.specs.Read.{read}
 use Rattle.tidying.specs.Tidy.{tidy}
 use Rattle.writer.specs.Answer as answer
 use Rattle.writer.specs.Answer.{refused, fitted, outcomeOf, tidied, answered, Writes}
@@ -62,7 +64,7 @@ module _ (text : Bytes) (table : List ℕ) (doubles : List Float) (room : ℕ) w
       go true f h =
           let a : n ≡ length es = cc in
           let t = same-eq table (recordImage text (length table) (accepted es)) (and-left _ (sameReals doubles (realImage (length doubles) (accepted es))) f) in
-          ap (fitted room) (sym (written r text es (length table) d) ∙ (λ i. recordTexts text (sym t i) (sym a i)))
+          ap (fitted room) (sym (written r text es (length table) (resolved r text es d .reads)) ∙ (λ i. recordTexts text (sym t i) (sym a i)))
 
 -- ---- what was put from the front of an output on
 

@@ -4,9 +4,10 @@ use mathlib.Core.Path.{_≡_}
 use Prim.Native.Nat.{ℕ, _≤_}
 use lib.ListN.{length}
 use Rattle.laws.specs.Bytes.{Bytes}
-use Rattle.scene.specs.Reading.{Entry, statements, accepted, read}
+use Rattle.scene.specs.Reading.{Entry, accepted, statements}
 use Rattle.scene.specs.Record.{recordImage, realImage, settingsFor}
 use Rattle.scene.specs.declared.Mode.{Mode}
+use Rattle.sides.specs.Read.{read}
 use Rattle.tidying.specs.Tidy.{tidy}
 use Rattle.writer.specs.Answer.{Outcome, fitted, tidied}
 

@@ -2,8 +2,9 @@
 
 use super::numerals;
 use crate::reference::index::{hash, INDEX};
+use crate::reference::mixtures::MIXFUNC;
 use crate::reference::random::Random;
-use crate::reference::scene::{MOST_REALS, MOST_RECORDS, RECORD};
+use crate::reference::scene::{pairs_needed, MOST_REALS, MOST_RECORDS, RECORD};
 
 /// A mode by its number, a text, and how many entries are lent.
 pub struct Case {
@@ -11,9 +12,15 @@ pub struct Case {
     pub text: Vec<u8>,
     pub records: usize,
     pub reals: usize,
+    pub pairs: usize,
 }
 
 impl Case {
+    /// With as many pairs as the records need.
+    pub fn new(mode: u32, text: Vec<u8>, records: usize, reals: usize) -> Case {
+        Case { mode, text, records, reals, pairs: pairs_needed(records) }
+    }
+
     pub fn is_archive(&self) -> bool {
         self.mode == ARCHIVE
     }
@@ -155,11 +162,22 @@ fn statement(random: &mut Random, mode: u32, given: &mut Given) -> Words {
     let strings = *random.pick(strings);
     words.push(count_word(random, strings));
     words.extend((0..strings).map(|_| random.pick(&NAMES).as_bytes().to_vec()));
+    if kind == "mixfunc" && random.percent(92) {
+        words[SIDES].fill_with(|| given.side(random));
+    }
     words.push(count_word(random, 0));
     let reals = *random.pick(reals);
     words.push(count_word(random, reals));
     words.extend((0..reals).map(|at| real(random, kind, at).into_bytes()));
     words
+}
+
+/// Where the sides of a mixture stand in its statement.
+const SIDES: std::ops::Range<usize> = 4..6;
+
+fn sides(words: &mut Words) -> Option<&mut [Vec<u8>]> {
+    let is_mixture = words.get(1).is_some_and(|kind| kind == b"mixfunc");
+    words.get_mut(SIDES).filter(|_| is_mixture)
 }
 
 impl Given {
@@ -171,6 +189,14 @@ impl Given {
         if !surface {
             self.definitions.push(name.to_vec());
         }
+    }
+
+    /// A side that is defined above, or void.
+    fn side(&self, random: &mut Random) -> Vec<u8> {
+        if self.definitions.is_empty() || random.percent(20) {
+            return b"void".to_vec();
+        }
+        random.pick(&self.definitions).clone()
     }
 
     /// A modifier that is likely to be accepted: now and then it has a surface's name.
@@ -298,6 +324,17 @@ fn lent(random: &mut Random, most: usize, needed: usize) -> usize {
     }
 }
 
+/// Pairs for a table of so many numbers of records: mostly as many as it needs.
+fn lent_pairs(random: &mut Random, records: usize) -> usize {
+    let needed = pairs_needed(records);
+    match random.below(80) {
+        0 => needed.saturating_sub(1),
+        1 => random.below(needed + 1),
+        2..=20 => needed + random.below(12),
+        _ => needed,
+    }
+}
+
 const MOST_RECORD_NUMBERS: usize = RECORD * MOST_RECORDS;
 
 /// Up to some hundred statements, and what they give.
@@ -308,7 +345,13 @@ fn statements(random: &mut Random, mode: u32) -> (Vec<Words>, Given) {
         _ => random.within(51, 250),
     };
     let mut given = Given::default();
-    let statements = (0..size).map(|_| statement(random, mode, &mut given)).collect();
+    let mut statements: Vec<_> = (0..size).map(|_| statement(random, mode, &mut given)).collect();
+    // A side that is defined below may close a loop
+    for sides in statements.iter_mut().filter_map(sides) {
+        if random.percent(8) {
+            sides[random.below(2)] = given.side(random);
+        }
+    }
     (statements, given)
 }
 
@@ -318,12 +361,9 @@ fn laid_out(random: &mut Random, mode: u32, statements: &[Words], damages: usize
     (0..damages).for_each(|_| damage(random, &mut text));
     let size = statements.len();
     let words: usize = statements.iter().map(Vec::len).sum();
-    Case {
-        mode,
-        text,
-        records: lent(random, MOST_RECORD_NUMBERS, RECORD * size),
-        reals: lent(random, MOST_REALS, words.saturating_sub(6 * size)),
-    }
+    let records = lent(random, MOST_RECORD_NUMBERS, RECORD * size);
+    let reals = lent(random, MOST_REALS, words.saturating_sub(6 * size));
+    Case { mode, text, records, reals, pairs: lent_pairs(random, records) }
 }
 
 /// A scene of up to some hundred statements.
@@ -350,7 +390,8 @@ fn noise(random: &mut Random, mode: u32) -> Case {
             text.extend_from_slice(random.pick(&BLANKS).as_bytes());
         }
     }
-    Case { mode, text, records: lent(random, MOST_RECORD_NUMBERS, 20), reals: lent(random, MOST_REALS, 4) }
+    let records = lent(random, MOST_RECORD_NUMBERS, 20);
+    Case { mode, text, records, reals: lent(random, MOST_REALS, 4), pairs: lent_pairs(random, records) }
 }
 
 /// A scene at or around one of the limits.
@@ -358,10 +399,16 @@ fn at_a_limit(random: &mut Random, mode: u32) -> Case {
     let primitives = *random.pick(&[2, 10, 1023, 1024, 1025, 1030]);
     let reals = *random.pick(&[0, 1, 4095, 4096, 4097, 5000]);
     let name = vec![b'n'; *random.pick(&[1, 63, 64, 65])];
-    let mut text = [b"void mixfunc ", name.as_slice(), format!(" 4 a b c d 0 {reals}").as_bytes()].concat();
+    let mut text = [b"void mixfunc ", name.as_slice(), format!(" 4 void void c d 0 {reals}").as_bytes()].concat();
     (0..reals).for_each(|_| text.extend_from_slice(b" 1"));
     text.extend_from_slice(&[b"\nvoid alias a ", name.as_slice(), b"\n"].concat());
-    let line = *random.pick(&[&b"a alias a a\n"[..], b"a alias b a\n", b"void mixfunc b 4 a b c d 0 0\na alias c b\n"]);
+    // In the last of these the sides lead to the last lines, which make a loop
+    let line = *random.pick(&[
+        &b"a alias a a\n"[..],
+        b"a alias b a\n",
+        b"void mixfunc b 4 a void c d 0 0\na alias c b\n",
+        b"void mixfunc b 4 c a c d 0 0\nb alias c b\n",
+    ]);
     let lines = line.iter().filter(|&&b| b == b'\n').count();
     (0..(primitives - 2) / lines).for_each(|_| text.extend_from_slice(line));
     if random.percent(60) {
@@ -384,7 +431,7 @@ fn at_a_limit(random: &mut Random, mode: u32) -> Case {
         most - RECORD,
     ]);
     let reals = *random.pick(&[4096, 4096, 4096, 4095, 4097, 6000]);
-    Case { mode, text, records, reals }
+    Case { mode, text, records, reals, pairs: lent_pairs(random, records) }
 }
 
 /// Fills a text up to about the most bytes, before or behind its statements.
@@ -408,6 +455,7 @@ fn case_in(random: &mut Random, mode: u32) -> Case {
     match random.below(200) {
         0 => at_a_limit(random, mode),
         1..=8 => noise(random, mode),
+        9..=28 => mixed(random, mode),
         _ => ordinary(random, mode),
     }
 }
@@ -417,6 +465,153 @@ pub fn case(random: &mut Random) -> Case {
     let mode = mode(random);
     case_in(random, mode)
 }
+
+// ---- mixtures
+
+/// What mixtures may lead to without a loop: each to what has a lower rank, above and below it in the text.
+struct Ranks {
+    of: Vec<usize>,
+    /// How much lower: few make long chains.
+    near: usize,
+}
+
+impl Ranks {
+    fn new(random: &mut Random, count: usize) -> Ranks {
+        let mut of: Vec<usize> = (0..count).collect();
+        match random.below(3) {
+            0 => {}
+            1 => of.reverse(),
+            _ => (1..count).for_each(|at| of.swap(at, random.below(at + 1))),
+        }
+        Ranks { of, near: *random.pick(&[1, 2, count]) }
+    }
+
+    /// Any of the first so many that a number, from 1, may lead to; 0 for none.
+    fn below(&self, random: &mut Random, number: usize, among: usize) -> usize {
+        let own = self.of[number - 1];
+        let lower = |other: &usize| self.of[other - 1] < own && own - self.of[other - 1] <= self.near;
+        let found: Vec<usize> = (1..=among).filter(lower).collect();
+        if found.is_empty() || random.percent(10) {
+            return 0;
+        }
+        *random.pick(&found)
+    }
+}
+
+fn numbered(number: usize) -> Vec<u8> {
+    if number == 0 {
+        return b"void".to_vec();
+    }
+    format!("m{number}").into_bytes()
+}
+
+/// A statement of words, of which one stands for a name each.
+fn spelled(pattern: &str, names: &[usize]) -> Words {
+    let mut names = names.iter();
+    let word = |word: &str| match word {
+        "_" => numbered(*names.next().expect("a name for each")),
+        _ => word.as_bytes().to_vec(),
+    };
+    pattern.split(' ').map(word).collect()
+}
+
+/// Statements of which most are mixtures and aliases of mixtures, and some surfaces under them.
+fn mixture_statements(random: &mut Random, count: usize) -> Vec<Words> {
+    let ranks = Ranks::new(random, count);
+    let mut statements: Vec<Words> = (1..=count)
+        .map(|number| {
+            let above = number - 1;
+            let modifier = if random.percent(30) { ranks.below(random, number, above) } else { 0 };
+            let target = ranks.below(random, number, above);
+            match random.below(14) {
+                0..=7 => {
+                    let sides = [(); 2].map(|()| ranks.below(random, number, count));
+                    spelled("_ mixfunc _ 4 _ _ v f.cal 0 0", &[modifier, number, sides[0], sides[1]])
+                }
+                8..=10 if target != 0 => spelled("_ alias _ _", &[modifier, number, target]),
+                _ => spelled("_ light _ 0 0 3 1 1 1", &[modifier, number]),
+            }
+        })
+        .collect();
+    let mut mixtures: Vec<_> = statements.iter_mut().filter_map(sides).collect();
+    if !mixtures.is_empty() {
+        let mixture = random.below(mixtures.len());
+        let side = &mut mixtures[mixture][random.below(2)];
+        match random.below(20) {
+            0..=5 => *side = numbered(random.within(1, count)), // most likely a loop
+            6 => *side = b"nowhere".to_vec(),
+            _ => {}
+        }
+    }
+    for _ in 0..random.below(4) {
+        // A surface of the name hides no mixture
+        let names = [random.below(count + 1), random.within(1, count + 3)];
+        statements.push(spelled("_ sphere _ 0 0 4 0 0 0 1", &names));
+    }
+    statements
+}
+
+/// A scene of mixtures, few or many.
+fn mixed(random: &mut Random, mode: u32) -> Case {
+    let count = match random.below(100) {
+        0..=79 => random.within(1, 12),
+        80..=98 => random.within(13, 60),
+        _ => random.within(61, 400),
+    };
+    let statements = mixture_statements(random, count);
+    laid_out(random, mode, &statements, 0)
+}
+
+/// And in any mode.
+pub fn mixtures(random: &mut Random) -> Case {
+    let mode = mode(random);
+    mixed(random, mode)
+}
+
+/// Records and pairs of mixtures that can be walked; then mostly one number is changed, so that either may hold anything.
+pub fn mixture_tables(random: &mut Random) -> (Vec<u32>, Vec<u32>) {
+    let rows = random.within(1, 12);
+    let ranks = Ranks::new(random, rows);
+    let kinds: Vec<u32> = (0..rows).map(|_| *random.pick(&[1, 9, 10, 15, 24, 25, 25, 25, 25, 25])).collect();
+    let link = |random: &mut Random, number: usize, among: usize| match ranks.below(random, number, among) {
+        0 => 0,
+        link if kinds[link - 1] < 10 => 0,
+        link => link as u32,
+    };
+    let (mut records, mut pairs) = (Vec::new(), Vec::new());
+    for number in 1..=rows {
+        let kind = kinds[number - 1];
+        let modifier = link(random, number, number - 1);
+        records.extend([kind, modifier, 0, 0, 1, 0, 0, 0, 0, 0, 1]);
+        pairs.extend([(); 2].map(|()| if kind == MIXFUNC { link(random, number, rows) } else { 0 }));
+    }
+    if random.percent(60) {
+        let at = random.below(rows);
+        let near = random.below(rows + 3) as u32;
+        match random.below(5) {
+            0 => records[RECORD * at] = *random.pick(&[0, 1, 9, 10, 24, 25, 26, u32::MAX]),
+            1 => records[RECORD * at + 1] = *random.pick(&[near, near, at as u32, at as u32 + 1, u32::MAX]),
+            2 | 3 => pairs[2 * at + random.below(2)] = *random.pick(&[near, near, near, at as u32 + 1, u32::MAX]),
+            _ => pairs.truncate(pairs.len() - random.within(1, 2)),
+        }
+    }
+    (records, pairs)
+}
+
+/// Pairs for records of any kind: some lead to a record.
+pub fn pair_table(random: &mut Random, records: &[u32]) -> Vec<u32> {
+    let rows = records.len() / RECORD;
+    let mut pairs: Vec<u32> = (0..2 * rows)
+        .map(|at| match records[RECORD * (at / 2)] {
+            MIXFUNC => random.below(rows + 1) as u32,
+            _ => random.percent(1) as u32,
+        })
+        .collect();
+    pairs.truncate(pairs.len().saturating_sub(random.below(40).saturating_sub(37)));
+    pairs
+}
+
+// ---- names that collide
 
 /// A name of a chosen hash: pairs of letters by the bits of a number, which all have one hash, and two bytes that make up the rest.
 pub fn name_of_hash(wanted: usize, number: usize, pairs: usize) -> Vec<u8> {
@@ -446,6 +641,9 @@ pub fn colliding(random: &mut Random) -> Case {
         rename(&mut words[2]);
         if alias {
             rename(&mut words[3]);
+        }
+        if let Some(sides) = sides(words) {
+            sides.iter_mut().for_each(rename);
         }
     }
     if random.percent(20) {

@@ -8,8 +8,8 @@ use Rattle.pair.proofs.BothLaws.{left-refused, right-refused, both-read
 use Rattle.pair.proofs.read_both.Statement.{statement}
 use Rattle.pair.proofs.read_both.Tie as tie
 
-read-with-own-index-requires : tie.Need-read-with-own-index-requires
-read-with-own-index-requires c κs = search needs
+read-with-own-tables-requires : tie.Need-read-with-own-tables-requires
+read-with-own-tables-requires c κs = search needs
 
 enum-known-reason : tie.Need-enum-known-reason
 enum-known-reason c = search needs
@@ -20,8 +20,8 @@ clear-requires c κs = search needs
 enum-known-m : tie.Need-enum-known-m
 enum-known-m c = search needs
 
-read-with-own-index-requires-2 : tie.Need-read-with-own-index-requires-2
-read-with-own-index-requires-2 c κs = search needs
+read-with-own-tables-requires-2 : tie.Need-read-with-own-tables-requires-2
+read-with-own-tables-requires-2 c κs = search needs
 
 enum-known-reason-2 : tie.Need-enum-known-reason-2
 enum-known-reason-2 c = search needs
@@ -50,7 +50,7 @@ returns c =
     let at-reason = at-clear .before .before .before .before in
     let at-read = at-reason .before .before .before .before .before .before in
     let a = at-read .before .before .before .before .before .before .before .before .before .args in
-    left-refused (a .mode) (a .left .now) (a .left-records .now) (a .left-reals .now) (a .right .now) (a .right-records .now) (a .right-reals .now) _ _ _ _ _ _ (rw (at-reason .reason .given .1) at (at-read .read-with-own-index .ensures)) (at-clear .clear .ensures .0) (at-clear .clear .ensures .1)
+    left-refused (a .mode) (a .left .now) (a .left-records .now) (a .left-reals .now) (a .right .now) (a .right-records .now) (a .right-reals .now) _ _ _ _ _ _ (rw (at-reason .reason .given .1) at (at-read .read-with-own-tables .ensures)) (at-clear .clear .ensures .0) (at-clear .clear .ensures .1)
 
 same-length-5 : tie.Need-same-length-5
 same-length-5 c = search needs
@@ -72,7 +72,7 @@ returns-2 c =
     let at-m = at-read2 .before .before .before .before in
     let at-read = at-m .before .before .before .before .before .before in
     let a = at-read .before .before .before .before .before .before .before .before .before .args in
-    right-refused (a .mode) (a .left .now) (a .left-records .now) (a .left-reals .now) (a .right .now) (a .right-records .now) (a .right-reals .now) _ _ _ _ _ _ _ _ _ _ (rw (at-m .m .given .1) at (at-read .read-with-own-index .ensures)) (rw (at-reason2 .reason2 .given .1) at (at-read2 .read-with-own-index2 .ensures)) (at-clear2 .clear2 .ensures .0 ∙ ap (λ (n : ℕ). replicate n 0) (at-read .read-with-own-index .kept .1 .1 .0)) (at-clear2 .clear2 .ensures .1 ∙ ap (λ (n : ℕ). replicate n zeroReal) (at-read .read-with-own-index .kept .1 .1 .1 .0))
+    right-refused (a .mode) (a .left .now) (a .left-records .now) (a .left-reals .now) (a .right .now) (a .right-records .now) (a .right-reals .now) _ _ _ _ _ _ _ _ _ _ (rw (at-m .m .given .1) at (at-read .read-with-own-tables .ensures)) (rw (at-reason2 .reason2 .given .1) at (at-read2 .read-with-own-tables2 .ensures)) (at-clear2 .clear2 .ensures .0 ∙ ap (λ (n : ℕ). replicate n 0) (at-read .read-with-own-tables .kept .1 .1 .0)) (at-clear2 .clear2 .ensures .1 ∙ ap (λ (n : ℕ). replicate n zeroReal) (at-read .read-with-own-tables .kept .1 .1 .1 .0))
 
 same-length-9 : tie.Need-same-length-9
 same-length-9 c = search needs
@@ -92,17 +92,17 @@ returns-3 c =
     let at-m = at-read2 .before .before .before .before in
     let at-read = at-m .before .before .before .before .before .before in
     let a = at-read .before .before .before .before .before .before .before .before .before .args in
-    both-read (a .mode) (a .left .now) (a .left-records .now) (a .left-reals .now) (a .right .now) (a .right-records .now) (a .right-reals .now) _ _ _ _ _ _ _ _ (rw (at-m .m .given .1) at (at-read .read-with-own-index .ensures)) (rw (c .before .n .given .1) at (at-read2 .read-with-own-index2 .ensures))
+    both-read (a .mode) (a .left .now) (a .left-records .now) (a .left-reals .now) (a .right .now) (a .right-records .now) (a .right-reals .now) _ _ _ _ _ _ _ _ (rw (at-m .m .given .1) at (at-read .read-with-own-tables .ensures)) (rw (c .before .n .given .1) at (at-read2 .read-with-own-tables2 .ensures))
 
 pub read-both-spec : {M : Type 1} → statement M
 read-both-spec =
     tie.close
     (tie.spec
-    read-with-own-index-requires
+    read-with-own-tables-requires
     enum-known-reason
     clear-requires
     enum-known-m
-    read-with-own-index-requires-2
+    read-with-own-tables-requires-2
     enum-known-reason-2
     clear-requires-2
     enum-known-n

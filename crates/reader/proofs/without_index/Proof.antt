@@ -1,13 +1,12 @@
 -- `reader::without_index` meets its contract.
-use Rattle.reader.proofs.EndLaws.{short-long, short-plain}
+use mathlib.Core.Path.{ap}
+use Prim.Native.Nat.{ℕ}
 use Rattle.reader.proofs.without_index.Statement.{statement}
 use Rattle.reader.proofs.without_index.Tie as tie
+use Rattle.reader.specs.declared.Answer.the-variants.{Refused}
 
 returns : tie.Need-returns
-returns c = short-long _ (c .if1 .taken)
-
-returns-2 : tie.Need-returns-2
-returns-2 c = short-plain _ (c .if1 .left)
+returns c = ap (λ (n : ℕ). Refused n 0) (c .short-reason .ensures)
 
 pub without-index-spec : {M : Type 1} → statement M
-without-index-spec = tie.close (tie.spec returns returns-2)
+without-index-spec = tie.close (tie.spec (λ c κs. tt) returns)

@@ -1,0 +1,4 @@
+pub mod StepLaws
+pub mod CountLaws
+pub mod StoredLaws
+pub mod ResolveLaws

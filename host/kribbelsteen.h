@@ -1,5 +1,5 @@
-/* Kribbelsteen: a verified reader of Radiance scene texts, mixtures resolved, two saves compared, scenes written out, ray hits and
- * Fresnel values.
+/* Kribbelsteen: a verified reader of Radiance scene texts, mixtures resolved, two saves compared, scenes written out, their glass moved,
+ * ray hits, Fresnel values and panes of glass.
  *
  * Link with libkribbelsteen.a. The functions keep nothing between calls, allocate nothing and may be called by several threads
  * at once, each on memory of its own.
@@ -62,7 +62,7 @@ enum kribbelsteen_pair_field {
 /* Why something is refused. */
 enum kribbelsteen_reason {
     KRIBBELSTEEN_ACCEPTED = 0,
-    /* kribbelsteen_read, _read_indexed, _read_both and _write; in brackets the place that is answered */
+    /* kribbelsteen_read, _read_indexed, _read_both, _write and _move_glass; in brackets the place that is answered */
     KRIBBELSTEEN_TEXT_TOO_LONG = 1,     /* text over 65,536 bytes (0) */
     KRIBBELSTEEN_BAD_BYTE = 2,          /* a word with a byte outside 33 to 126 (the word) */
     KRIBBELSTEEN_WORD_TOO_LONG = 3,     /* a word over 64 bytes (the word) */
@@ -87,13 +87,16 @@ enum kribbelsteen_reason {
     KRIBBELSTEEN_NO_SUCH_PRIMITIVE = 17,
     KRIBBELSTEEN_BAD_TABLE = 18,
     KRIBBELSTEEN_ALLOWANCE = 19,
-    /* hits and kribbelsteen_fresnel */
+    /* hits, kribbelsteen_fresnel, _pane_factors and _transmissivity */
     KRIBBELSTEEN_NOT_FINITE = 20,
     KRIBBELSTEEN_OUT_OF_RANGE = 21,
-    /* kribbelsteen_write */
+    /* kribbelsteen_write and _move_glass */
     KRIBBELSTEEN_TABLES_DIFFER = 22,    /* the tables are not those of the text (0) */
-    KRIBBELSTEEN_OUTPUT_TOO_SMALL = 23  /* the output is too small for the tidy text (0); kribbelsteen_shown: the list is too short */
+    KRIBBELSTEEN_OUTPUT_TOO_SMALL = 23  /* the output is too small for the text (0); kribbelsteen_shown: the list is too short */
 };
+
+/* Where glass is moved to: forth to four reals, back to three. A direction is given by its number, and any number but 1 is forth. */
+enum kribbelsteen_direction { KRIBBELSTEEN_FORTH = 0, KRIBBELSTEEN_BACK = 1 };
 
 /* Which of two saves. */
 enum kribbelsteen_side { KRIBBELSTEEN_LEFT = 0, KRIBBELSTEEN_RIGHT = 1 };
@@ -264,6 +267,22 @@ uint32_t kribbelsteen_next_ordered(const uint8_t *left, size_t left_len, const u
 uint32_t kribbelsteen_write(uint32_t mode, const uint8_t *text, size_t text_len, const uint32_t *records, size_t records_len,
                             const double *reals, size_t reals_len, uint8_t *out, size_t out_len, size_t answer[2]);
 
+/* Writes the tidy text of a scene as kribbelsteen_write does, with its glass moved. Glass of three reals has the index 1.52. Forth
+ * spells it out: such glass gets a fourth real, `1.52`. Back drops a fourth real that is spelled exactly so; `1.520` and `+1.52` stay,
+ * and so does all other glass. An alias has no reals of its own and stays as it is written. Forth and then back gives the tidy text
+ * again where no glass of it has a fourth real spelled `1.52`. An output of 65,536 bytes is enough, and so is one of text_len + 1 and,
+ * forth, five more for each glass of three reals.
+ *
+ * Takes up to about 350 KB of stack.
+ * Returns 0, or refuses: as kribbelsteen_write does up to 22; then what a reading of the moved text into tables of the same lengths
+ * would give, 1 if it has over 65,536 bytes, else 13 if it has more reals than there is room for, both at place 0; then 23 if it is
+ * longer than the output.
+ * answer: place of the refusal, bytes of the moved text. A written scene has place 0, a refused one length 0.
+ * Writes the output whole: bytes behind the text are 0, and on a refusal all are. The tables are not written. */
+uint32_t kribbelsteen_move_glass(uint32_t mode, uint32_t direction, const uint8_t *text, size_t text_len, const uint32_t *records,
+                                 size_t records_len, const double *reals, size_t reals_len, uint8_t *out, size_t out_len,
+                                 size_t answer[2]);
+
 /* The least distance of a hit that names none: what is not above it is no hit, so that a ray which leaves a panel does not hit it
  * again. A call that ends in _above takes a least distance by name; with 0 all that is ahead of the ray's origin counts. A larger
  * least distance never turns a miss into a hit. */
@@ -318,6 +337,27 @@ uint32_t kribbelsteen_polygon_in_table_above(const double ray[6], const uint32_t
  * to 1 or an index not above 0; then 20 for a step whose result is NaN or infinite.
  * answer: FTE, FTM and F, each from 0 to 1; 0 0 0 on total reflection or a refusal. Nothing else is written. */
 uint32_t kribbelsteen_fresnel(double cos1, double n1, double n2, double answer[3]);
+
+/* How much light a pane of glass lets through and how much it sends back, all reflections between its two sides counted: the factors in
+ * brackets, without the colour. te and tm are the FTE and FTM of one side, ct is what is left of the light that crosses the pane once.
+ *
+ *     through: 0.5*(1-te)^2/(1-te^2*ct^2) + 0.5*(1-tm)^2/(1-tm^2*ct^2)
+ *     back:    0.5*te*(1+(1-2*te)*ct^2)/(1-te^2*ct^2) + 0.5*tm*(1+(1-2*tm)*ct^2)/(1-tm^2*ct^2)
+ *
+ * with squares first, then left to right. Returns 0, or refuses: 20 if an input is NaN or infinite; 21 for an input outside 0 to 1;
+ * then 20 for a step whose result is NaN or infinite, as where ct and te or tm are 1.
+ * answer: through and back; 0 and 0 on a refusal. Nothing else is written. */
+uint32_t kribbelsteen_pane_factors(double te, double tm, double ct, double answer[2]);
+
+/* The transmissivity of glass whose transmittance is measured, above 0 and at most 1:
+ *
+ *     (root(.8402528435 + .0072522239*t*t) - .9166530661) / .0036261119 / t
+ *
+ * left to right, with kribbelsteen_root. It is below 0 for a transmittance under about 0.0001.
+ * Returns 0, or refuses: 20 if the input is NaN or infinite; 21 if it is not above 0 or is above 1; then 20 for a step whose result is
+ * infinite, as for the smallest subnormals.
+ * answer: the transmissivity; 0 on a refusal. Nothing else is written. */
+uint32_t kribbelsteen_transmissivity(double transmittance, double answer[1]);
 
 /* The root of x: the largest double whose exact square is at most x, and +0 for either zero. It is rounded down, where sqrt
  * rounds to nearest. NaN where there is none: below 0, for an infinity and for NaN. Nothing is written. */

@@ -27,6 +27,9 @@ listing=$("$bin/list" <$scene)$'\n'
 finishes=$("$bin/finishes" <$scene)$'\n'
 shows=$("$bin/shows" <$scene)$'\n'
 tidy=$("$bin/tidy" <$scene)$'\n'
+printf 'void glass clear 0 0 3 .9 .9 .9 void glass grey 0 0 4 .5 .5 .5 1.52\n' >"$scratch/panes"
+panes=$'void glass clear\n0\n0\n4 .9 .9 .9 1.52\nvoid glass grey\n0\n0\n4 .5 .5 .5 1.52\n'
+bare=$'void glass clear\n0\n0\n3 .9 .9 .9\nvoid glass grey\n0\n0\n3 .5 .5 .5\n'
 head -c 65536 /dev/zero | tr '\0' '#' >"$scratch/fits"
 head -c 65537 /dev/zero | tr '\0' '#' >"$scratch/long"
 printf '\n# note\nwall' >"$scratch/refused"
@@ -38,24 +41,39 @@ expect '$bin/list $scene' "$listing" ''
 expect '$bin/finishes $scene' "$finishes" ''
 expect '$bin/shows $scene' "$shows" ''
 expect '$bin/tidy $scene' "$tidy" ''
+
+# Glass is moved, and a scene without it is tidy.
+for direction in forth back; do
+    expect '$bin/glass $direction $scene' "$tidy" ''
+    expect '$bin/glass $direction <$scene' "$tidy" ''
+done
+expect '$bin/glass forth $scratch/panes' "$panes" ''
+expect '$bin/glass back <$scratch/panes' "$bare" ''
+expect '$bin/glass back $scene $scratch/panes' "scene=$scene"$'\n'"${tidy}scene=$scratch/panes"$'\n'"$bare" ''
+expect '$bin/glass back $scratch/panes | $bin/glass --archive forth' "$panes" ''
 expect '$bin/list $scene $scene' "scene=$scene"$'\n'"${listing}scene=$scene"$'\n'"$listing" ''
 expect '$bin/finishes $scene $scene' "scene=$scene"$'\n'"${finishes}scene=$scene"$'\n'"$finishes" ''
 expect '$bin/shows $scene $scene' "scene=$scene"$'\n'"${shows}scene=$scene"$'\n'"$shows" ''
 expect '$bin/tidy $scene $scene' "scene=$scene"$'\n'"${tidy}scene=$scene"$'\n'"$tidy" ''
+expect '$bin/glass forth $scene $scene' "scene=$scene"$'\n'"${tidy}scene=$scene"$'\n'"$tidy" ''
 
 # A read that fails is no empty scene.
 for program in list finishes shows words numerals rays; do
     expect '$bin/$program <$scratch' $'unreadable\n' ''
     expect '$bin/$program <&-' $'unreadable\n' ''
 done
-expect '$bin/tidy <$scratch' $'unreadable\n' $'unreadable\n'
-expect '$bin/tidy <&-' $'unreadable\n' $'unreadable\n'
+for program in tidy 'glass forth'; do
+    expect '$bin/$program <$scratch' $'unreadable\n' $'unreadable\n'
+    expect '$bin/$program <&-' $'unreadable\n' $'unreadable\n'
+done
 for program in list finishes shows; do
     expect '$bin/$program samples' $'scene=samples unreadable\n' ''
     expect '$bin/$program missing' $'scene=missing unreadable\n' ''
     expect '$bin/$program ""' $'scene= unreadable\n' ''
 done
-expect '$bin/tidy missing' $'scene=missing unreadable\n' $'scene=missing unreadable\n'
+for program in tidy 'glass forth'; do
+    expect '$bin/$program missing' $'scene=missing unreadable\n' $'scene=missing unreadable\n'
+done
 expect '$bin/list missing $scene' $'scene=missing unreadable\n'"scene=$scene"$'\n'"$listing" ''
 expect '$bin/shows missing $scene' $'scene=missing unreadable\n'"scene=$scene"$'\n'"$shows" ''
 expect '$bin/compare $scene samples' $'scene=right unreadable\n' ''
@@ -71,11 +89,16 @@ expect '$bin/finishes <$scratch/long' $'refused=1 place=0 line=1\n' ''
 expect '$bin/shows <$scratch/fits' '' ''
 expect '$bin/shows <$scratch/long' $'refused=1 place=0 line=1\n' ''
 expect '$bin/shows $scratch/long' $'refused=1 place=0 line=1\n' ''
-expect '$bin/tidy <$scratch/long' $'refused=1 place=0 line=1\n' $'refused=1 place=0 line=1\n'
+for program in tidy 'glass forth'; do
+    expect '$bin/$program <$scratch/long' $'refused=1 place=0 line=1\n' $'refused=1 place=0 line=1\n'
+done
 
 # A refusal is told from a tidy text by standard error.
-expect '$bin/tidy <$scratch/refused' $'refused=7 place=8 line=3\n' $'refused=7 place=8 line=3\n'
-expect '$bin/tidy $scratch/refused' $'refused=7 place=8 line=3\n' "scene=$scratch/refused refused=7 place=8 line=3"$'\n'
+for program in tidy 'glass forth'; do
+    expect '$bin/$program <$scratch/refused' $'refused=7 place=8 line=3\n' $'refused=7 place=8 line=3\n'
+    expect '$bin/$program $scratch/refused' $'refused=7 place=8 line=3\n' "scene=$scratch/refused refused=7 place=8 line=3"$'\n'
+    expect '$bin/$program <$scratch/loop' $'refused=26 place=41 line=2\n' $'refused=26 place=41 line=2\n'
+done
 expect '$bin/finishes <$scratch/refused' $'refused=7 place=8 line=3\n' ''
 expect '$bin/shows <$scratch/refused' $'refused=7 place=8 line=3\n' ''
 for program in finishes shows; do
@@ -83,21 +106,27 @@ for program in finishes shows; do
     expect '$bin/$program $scene $scratch/loop | tail -n 2' "scene=$scratch/loop"$'\nrefused=26 place=41 line=2\n' ''
 done
 expect '$bin/list <$scratch/loop' $'refused=26 place=41\n' ''
-expect '$bin/tidy <$scratch/loop' $'refused=26 place=41 line=2\n' $'refused=26 place=41 line=2\n'
 expect '$bin/compare $scene $scratch/loop' $'scene=right refused=26 place=41\n' ''
 
 # A write that fails is said once, and is the last. A file that is opened may get the number of a closed standard output.
-for program in list finishes shows tidy words numerals; do
+for program in list finishes shows tidy 'glass forth' words numerals; do
     expect '$bin/$program <$scene >/dev/full' '' "$full"
     expect '$bin/$program <$scene >&-' '' $'standard output: Bad file descriptor\n'
 done
-for program in list finishes shows tidy; do
+for program in list finishes shows tidy 'glass forth'; do
     expect '$bin/$program $scene $scene >/dev/full' '' "$full"
     expect '$bin/$program $scene $scene >&-' '' $'standard output: Bad file descriptor\n'
+done
+for program in list finishes shows tidy; do
     # An option that is unknown, or stands behind a file, is refused before anything is done.
     for arguments in '-x $scene' '$scene -' '--archiv $scene' '--archives $scene' '$scene --archive' '--archive --archive $scene' '--archive -x'; do
         expect '$bin/$program '"$arguments" "usage: $program [--archive] [FILE..]"$'\n' ''
     done
+done
+# So is a direction that is missing, unknown or behind a file.
+for arguments in '' --archive '$scene' '--archive $scene' '$scene forth' sideways 'fort $scene' 'forths $scene' 'Forth $scene' '"" $scene' \
+    '-x $scene' '-x forth $scene' 'forth -x $scene' 'forth $scene -' 'forth --archive $scene' '--archive --archive forth' '--archive back -x'; do
+    expect '$bin/glass '"$arguments" $'usage: glass [--archive] forth|back [FILE..]\n' ''
 done
 expect '$bin/compare $scene samples/truck-nine-morning.rad >/dev/full' '' "$full"
 expect '$bin/compare $scene missing >/dev/full' '' "$full"
@@ -141,9 +170,12 @@ expect '$bin/shows --archive <$old' "$old_shows" ''
 expect '$bin/shows --archive $scene' "$shows" ''
 expect '$bin/shows --archive $scene $old' "scene=$scene"$'\n'"${shows}scene=$old"$'\n'"$old_shows" ''
 expect '$bin/tidy <$old' "$retired" "$retired"
-expect '$bin/tidy --archive <$scene' "$tidy" ''
-expect '$bin/tidy --archive missing' $'scene=missing unreadable\n' $'scene=missing unreadable\n'
-expect '$bin/tidy --archive <$old | $bin/list --archive' "$archive" ''
+expect '$bin/glass forth <$old' "$retired" "$retired"
+for program in 'tidy --archive' 'glass --archive forth'; do
+    expect '$bin/$program <$scene' "$tidy" ''
+    expect '$bin/$program missing' $'scene=missing unreadable\n' $'scene=missing unreadable\n'
+    expect '$bin/$program <$old | $bin/list --archive' "$archive" ''
+done
 expect '$bin/compare $scene $old' $'scene=right refused=28 place=120\n' ''
 expect '$bin/compare $old $scene' $'scene=left refused=28 place=120\n' ''
 expect '$bin/compare --archive $old $old' '' ''

@@ -1,24 +1,29 @@
 #!/usr/bin/env python3
-"""Whether the programs list, finishes and shows print what tools/scene.py does, and tidy what tools/tidy.py does, on texts made from
-a seed and on those at the limits, each on standard input and half of them in the archive reading; whether a tidy text is its own, with
-the same listing, and shows the same; whether a text that the new reading accepts has the same listing in the archive one, below its
-line; and whether tidy alone says its refusals on standard error too.
+"""Whether the programs list, finishes and shows print what tools/scene.py does, tidy what tools/tidy.py does and glass, forth and back,
+what tools/glass.py does, on texts made from a seed and on those at the limits, each on standard input and half of them in the archive
+reading; whether a tidy text is its own, with the same listing, and shows the same; whether a text with its glass moved forth comes back,
+to the tidy text if it had no glass to move back; whether a text that the new reading accepts has the same listing in the archive one,
+below its line; and whether tidy and glass alone say their refusals on standard error too.
 
     tools/compare-programs.py [COUNT [SEED [FOLDER]]]
 
-COUNT is 20000 and FOLDER target/bin if not given. Prints how many texts were accepted or refused for each reason, and how many
-differ in what a program prints: the exit status is 1 if any does, or if a reason or the acceptance of a text turned up in none."""
+COUNT is 20000 and FOLDER target/bin if not given. Prints how many texts were accepted or refused for each reason, what became of glass
+that was moved forth, and how many texts differ in what a program prints: the exit status is 1 if any does, or if a reason or the
+acceptance of a text, an outcome of moving or a text that comes back turned up in none."""
 import collections
 import pathlib
 import subprocess
 import sys
 
+import glass
 import scene
 import texts
 import tidy
 
 TOP = pathlib.Path(__file__).resolve().parent.parent
 REASONS = [0, *range(1, 11), *range(12, 17), 25, 26, 28]  # 0 is accepted, and 11 is given no more
+SAYS_REFUSALS = ["tidy", "glass"]
+MOVED = ["glass moved", "glass moved and back again", "moved text refused=1", "moved text refused=13"]
 
 
 def every_text(seed, count):
@@ -26,6 +31,8 @@ def every_text(seed, count):
         yield False, text
     # The tidy text just fits, or is a byte too long.
     for text in (texts.packed(65535), texts.packed(65535) + b"\n", texts.packed(65536)):
+        yield False, text
+    for text in texts.panes():
         yield False, text
     # One in a hundred is long.
     long = count // 100
@@ -40,10 +47,23 @@ def reason_of(listing):
     return int(first[len(b"refused=") :]) if first.startswith(b"refused=") else 0
 
 
+def moves(archive, text, neat):
+    """What glass has to print of a text, and of the same moved forth; and what became of an accepted one."""
+    forth, back = (glass.moved(archive, is_back, text) for is_back in (False, True))
+    asked = [("glass forth", archive, text, forth), ("glass back", archive, text, back)]
+    if reason_of(neat):
+        return asked, []
+    if reason_of(forth):
+        return asked, ["moved text refused=%d" % reason_of(forth)]
+    returned = neat if back == neat else glass.moved(archive, True, forth)
+    asked += [("glass forth", archive, forth, forth), ("glass back", archive, forth, returned)]
+    return asked, MOVED[: 1 + (back == neat)] if forth != neat else []
+
+
 count = int(sys.argv[1]) if len(sys.argv) > 1 else 20000
 seed = int(sys.argv[2]) if len(sys.argv) > 2 else 1
 folder = pathlib.Path(sys.argv[3]) if len(sys.argv) > 3 else TOP / "target/bin"
-reasons, differ = collections.Counter(), 0
+reasons, outcomes, differ = collections.Counter(), collections.Counter(), 0
 for archive, text in every_text(seed, count):
     right = scene.listing(archive, text).encode()
     reasons[reason_of(right)] += 1
@@ -55,15 +75,20 @@ for archive, text in every_text(seed, count):
         asked += [("list", archive, neat, right), ("shows", archive, neat, shows), ("tidy", archive, neat, neat)]
     if not archive and reason_of(right) == 0:
         asked += [("list", True, text, b"archive=1\n" + right)]
-    for program, archive, text, right in asked:
-        said = right if program == "tidy" and right.startswith(b"refused=") else b""
-        run = subprocess.run([folder / program, *["--archive"] * archive], input=text, capture_output=True)
+    more, became = moves(archive, text, neat)
+    outcomes.update(became)
+    for command, archive, text, right in asked + more:
+        program, *direction = command.split()
+        said = right if program in SAYS_REFUSALS and right.startswith(b"refused=") else b""
+        run = subprocess.run([folder / program, *["--archive"] * archive, *direction], input=text, capture_output=True)
         if run.returncode != 0 or run.stdout != right or run.stderr != said:
             differ += 1
             if differ <= 5:
-                print("%s%s differs on %r: %r, not %r" % (program, " --archive" * archive, text[:300], run.stdout[:300], right[:300]))
+                print("%s%s differs on %r: %r, not %r" % (command, " --archive" * archive, text[:300], run.stdout[:300], right[:300]))
 for reason in REASONS:
     print("%6d %s" % (reasons[reason], "refused=%d" % reason if reason else "accepted"))
-missed = [reason for reason in REASONS if reasons[reason] == 0]
+for outcome in MOVED:
+    print("%6d %s" % (outcomes[outcome], outcome))
+missed = [reason for reason in REASONS if reasons[reason] == 0] + [outcome for outcome in MOVED if outcomes[outcome] == 0]
 print("%d compared, %d differ%s" % (sum(reasons.values()), differ, ", not reached: %s" % missed if missed else ""))
 sys.exit(1 if differ or missed else 0)

@@ -1,18 +1,20 @@
 #!/usr/bin/env python3
-"""Ray hits, Fresnel values and roots: an implementation of its own of document 01's section "Rays and reflection" and of requests L6 and
-L8.
+"""Ray hits, Fresnel values, roots, a pane's factors and transmissivity: an implementation of its own of document 01's section "Rays and
+reflection" and of requests L6, L8 and L12.
 
     tools/rays.py cases       a list of cases, one to a line (crates/rays/stdin)
     tools/rays.py answers     the answers to standard input's cases (crates/rays/stdout)
     tools/rays.py summary     how many cases there are of each kind, and how many of them have each answer
 
 A case is a kind and the bits of its doubles in hex: `sphere o d c r`, `ring o d c n inner outer`, `polygon o d` and its corners,
-`fresnel cos1 n1 n2`, `root x`, where o, d, c and n are three doubles each. Rays of these kinds have the least distance 0; those of
-`sphere_above`, `ring_above` and `polygon_above` have it as their last double, and `sphere_default` and so on have the default.
+`fresnel cos1 n1 n2`, `root x`, `factors FTE FTM Ct`, `transmissivity Tn`, where o, d, c and n are three doubles each. Rays of these
+kinds have the least distance 0; those of `sphere_above`, `ring_above` and `polygon_above` have it as their last double, and
+`sphere_default` and so on have the default.
 
-A step is one operation of Python's floats, which are IEEE doubles rounded once; the root is taken of whole numbers, exactly; a
-polygon's steps are exact fractions, rounded once."""
+A step is one operation of Python's floats, which are IEEE doubles rounded once; the root is taken of whole numbers, exactly; the
+steps of a polygon and of a pane are exact fractions, rounded once."""
 import collections
+import itertools
 import math
 import random
 import re
@@ -21,7 +23,7 @@ import sys
 from fractions import Fraction
 from math import inf, nextafter
 
-SIZES = {"sphere": [10], "ring": [14], "polygon": range(6, 128), "fresnel": [3], "root": [1]}
+SIZES = {"sphere": [10], "ring": [14], "polygon": range(6, 128), "fresnel": [3], "root": [1], "factors": [3], "transmissivity": [1]}
 SHAPES_ABOVE = {"sphere_above": [11], "ring_above": [15], "polygon_above": range(7, 128)}
 SIZES |= SHAPES_ABOVE | {shape + "_default": SIZES[shape] for shape in ("sphere", "ring", "polygon")}
 DEFAULT = 0.001
@@ -176,6 +178,59 @@ def fresnel(cos1, n1, n2):
     return "coefficients " + " ".join(map(pattern, values))
 
 
+def is_negative(x):
+    return math.copysign(1, x) < 0
+
+
+def signed(x, negative):
+    """The double nearest to a fraction, with the sign that it has where it is 0 too."""
+    return math.copysign(float(rounded(abs(x))), -1 if negative else 1)
+
+
+def plus(x, y):
+    total = Fraction(x) + Fraction(y)
+    return signed(total, total < 0 or is_negative(x) and is_negative(y))
+
+
+def product(x, y):
+    return signed(Fraction(x) * Fraction(y), is_negative(x) != is_negative(y))
+
+
+def quotient(x, y):
+    if y == 0:
+        raise Refused(20)
+    return signed(Fraction(x) / Fraction(y), is_negative(x) != is_negative(y))
+
+
+def polarised(f, c):
+    """What light of one polarisation adds to both factors: f is its coefficient, c the square of Ct."""
+    rest = plus(1.0, -product(product(f, f), c))
+    passed = plus(1.0, -f)
+    bracket = plus(1.0, product(plus(1.0, -product(2.0, f)), c))
+    through = quotient(product(0.5, product(passed, passed)), rest)
+    return through, quotient(product(product(0.5, f), bracket), rest)
+
+
+def factors(te, tm, ct):
+    in_range(all(0 <= x <= 1 for x in (te, tm, ct)))
+    c = product(ct, ct)
+    return "factors " + " ".join(pattern(plus(*parts)) for parts in zip(polarised(te, c), polarised(tm, c)))
+
+
+OFFSET, SLOPE, ORIGIN, SCALE = (
+    float(rounded(Fraction(numeral))) for numeral in (".8402528435", ".0072522239", ".9166530661", ".0036261119")
+)
+
+
+def transmissivity(tn):
+    in_range(0 < tn <= 1)
+    s = root(plus(OFFSET, product(product(SLOPE, tn), tn)))
+    return "transmissivity " + pattern(quotient(quotient(plus(s, -ORIGIN), SCALE), tn))
+
+
+VALUES = {"fresnel": fresnel, "factors": factors, "transmissivity": transmissivity}
+
+
 def answer(line):
     kind, *words = line.split() or [""]
     if len(line) > LONGEST or len(words) not in SIZES.get(kind, []) or not all(re.fullmatch("[0-9a-f]{16}", word) for word in words):
@@ -186,8 +241,8 @@ def answer(line):
     shape, _, form = kind.partition("_")
     least = inputs.pop() if form == "above" else DEFAULT if form == "default" else 0.0
     try:
-        if kind == "fresnel":
-            return fresnel(*map(step, inputs))
+        if kind in VALUES:
+            return VALUES[kind](*map(step, inputs))
         return {"sphere": sphere, "ring": ring, "polygon": polygon}[shape](*map(step, [least, *inputs]))
     except Refused as refused:
         return "refused %d" % refused.args[0]
@@ -457,6 +512,56 @@ def near_default():
             yield from (("ring", [*ray, 1, 1, 0, 0, 0, 1, 0, 5]), ("polygon", [*ray, *square]))
 
 
+def panes():
+    inside = [0.0, -0.0, LEAST, 2.0**-1022, 2.0**-538, 1e-160, 1e-17, 2.0**-53, 1e-8, 0.25, 0.5, 0.75, 1 - ULP, 1 - ULP / 2, 1.0]
+    outside = [-LEAST, -0.25, 1 + ULP, 2.0, LARGEST]
+    for te in inside:
+        for tm in inside:
+            yield from ([te, tm, ct] for ct in (draw.choice(inside), draw.choice((0.0, 0.75, 1 - ULP / 2, 1.0))))
+    for x in outside:
+        yield from ([x if i == k else draw.choice(inside + outside) for k in range(3)] for i in range(3) for _ in range(4))
+    for te in beside(1.0, 3)[:4]:  # the rest is 0 or a few places above it
+        yield from ([te, tm, ct] for tm in beside(1.0, 3)[:4] for ct in beside(1.0, 3)[:4])
+    for _ in range(160):
+        near, small = 1 - 2.0 ** -draw.uniform(1, 53), 2.0 ** -draw.uniform(1, 1074)
+        yield draw.choices((near, small, draw.random(), 1.0), k=3)
+    yield from ([draw.random() for _ in range(3)] for _ in range(240))
+    for k in range(81):  # what Fresnel says of glass, from grazing light on
+        _, te, tm, _ = answer(" ".join(["fresnel", *map(pattern, (k / 80, 1.0, 1.52))])).split()
+        yield [value(int(te, 16)), value(int(tm, 16)), draw.random()]
+    yield from common([0.25, 0.5, 0.75], [0.25, -1, 2])
+
+
+def least_where(holds, low, high):
+    """The least double from low to high for which it holds, and not for those below; it holds for high."""
+    while nextafter(low, inf) < high:
+        middle = max(low + (high - low) / 2, nextafter(low, inf))
+        low, high = (low, middle) if holds(middle) else (middle, high)
+    return high
+
+
+def transmittances():
+    def said(tn):
+        return answer("transmissivity " + pattern(tn))
+
+    def order_matters(tn):  # the square is not to be taken first
+        return root(OFFSET + SLOPE * tn * tn) != root(OFFSET + SLOPE * (tn * tn))
+
+    xs = NOT_FINITE + EDGES + beside(1.0, 3) + [-x for x in (0.25, 2.0**-1022, LARGEST)]
+    xs += beside(least_where(lambda tn: said(tn) != "refused 20", LEAST, 1.0), 8)  # below it the last quotient is infinite
+    xs += beside(least_where(lambda tn: not is_negative(value(int(said(tn)[-16:], 16))), 1e-5, 1.0), 8)
+    xs += [LEAST * k for k in range(1, 20)] + [LEAST * draw.getrandbits(draw.randint(5, 26)) for _ in range(40)]
+    for power in range(-1074, 1, 4):
+        xs += [2.0**power, 2.0**power * draw.uniform(1, 2)]
+    for power in range(-40, 0):
+        xs += beside(2.0**power)
+    xs += [k / 100 for k in range(1, 101)] + [draw.random() for _ in range(240)]
+    xs += [10 ** -draw.uniform(0, 8) for _ in range(120)] + [value(draw.getrandbits(62)) for _ in range(80)]
+    xs += [value(draw.getrandbits(64)) for _ in range(40)]
+    xs += itertools.islice(filter(order_matters, iter(draw.random, None)), 60)
+    return [[x] for x in xs]
+
+
 def cases():
     for kind, made in ("sphere", spheres()), ("ring", rings()), ("fresnel", fresnels()), ("root", roots()), ("polygon", polygons()):
         yield from (" ".join([kind, *map(pattern, inputs)]) for inputs in made)
@@ -471,6 +576,10 @@ def cases():
     yield from ("", " ", "cone " + one, *(kind + n * (" " + one) for kind, n in sizes.items()))
     yield from ("root " + word for word in words)
     yield from (blanks * " " + "root " + one for blanks in (LONGEST - 22, LONGEST - 21, LONGEST - 20, 4000, 0))
+    for kind, made in ("factors", panes()), ("transmissivity", transmittances()):
+        yield from (" ".join([kind, *map(pattern, inputs)]) for inputs in made)
+    sizes = {"factors": 2, "factors_above": 4, "transmissivity": 2, "transmissivity_default": 1, "factor": 3}  # no cases
+    yield from (kind + n * (" " + one) for kind, n in sizes.items())
 
 
 if __name__ == "__main__":

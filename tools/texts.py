@@ -1,7 +1,8 @@
 #!/usr/bin/env python3
 """Scene texts to try a reader on, valid and damaged, made from a seed: texts(seed, count, most) yields
 (archive, text, record_room, real_room), half of them for the archive reading, with at most so many statements each, a quarter of them
-mostly mixtures. Every reason for refusing turns up among them, 6 and 13 by the smaller rooms, but not 1.
+mostly mixtures. Every reason for refusing turns up among them, 6 and 13 by the smaller rooms, but not 1. Some statements are glass, with
+three reals or with four, of which the last is often spelled `1.52` or nearly so.
 
     tools/texts.py NAME      writes a text at or just past a limit of document 01: see limits; or a stored one of two saves that
                              have no name in common, left or right"""
@@ -12,6 +13,7 @@ import scene
 
 NAMES = ["wall", "desk", "deskfront", "lamp", "trim", "a", "x#y", "q!", "void2", "alias", "sphere", "n" * 64]
 NUMERALS = "0 1 -1 .5 2. 1e3 -2.5e-3 +7 0.0 -0 100 3.25 1E2 9e-22 123456789012345 .001".split()
+INDICES = "1.52 1.52 1.520 1.5 +1.52".split()
 BAD_NUMERALS = ". e5 1e 1.2.3 1e1000 0x1 -".split()
 LARGE_NUMERALS = "1e23 1000000000000000 1e-23 9999999999999999".split()
 LONG = "y" * 65
@@ -25,6 +27,8 @@ def statement(rng, archive, names):
     if names and rng.random() < 0.2:
         return [modifier, "alias", rng.choice(NAMES), rng.choice(names)]
     kind = rng.choice(scene.TYPES if archive or rng.random() < 0.2 else NEW_TYPES)
+    if rng.random() < 0.1:
+        kind = "glass"
     strings = rng.choice([n for n in range(7) if scene.strings_allowed(kind, n)])
     reals = rng.choice([n for n in range(13) if scene.reals_allowed(kind, n)])
     words = [modifier, kind, rng.choice(NAMES)]
@@ -35,7 +39,8 @@ def statement(rng, archive, names):
     values = []
     for _ in range(reals):
         for _ in range(8):
-            word = rng.choice(NUMERALS)
+            is_index = kind == "glass" and len(values) == 3
+            word = rng.choice(INDICES if is_index and rng.random() < 0.8 else NUMERALS)
             value = float(word)
             if not scene.breach(kind, values + [value]) or rng.random() < 0.05:
                 break
@@ -169,6 +174,15 @@ def packed(size):
     least, longer = divmod(size - len(front) - len(back) - count, count)
     words = [b"s" * (least + (k < longer)) for k in range(count)]
     return b" ".join([front, *words]) + back
+
+
+PANE = b"void glass g\n0\n0\n3 1 1 1\n"
+
+
+def panes():
+    """Accepted texts whose glass, moved forth, just meets a limit or is just past it: of bytes, and of reals."""
+    room = 65536 - len(PANE) - len(b" 1.52") - 1
+    return [PANE + packed(room), PANE + packed(room + 1), PANE + sized(reals=4092), PANE + sized(reals=4093)]
 
 
 def named(first, count):

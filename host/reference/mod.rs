@@ -2,6 +2,7 @@
 //! with and to measure against. They are no part of the library: tests and benchmark take them in by path, each what it needs.
 #![allow(dead_code)]
 
+pub mod glass;
 pub mod index;
 pub mod mixtures;
 pub mod plain;

@@ -1,4 +1,4 @@
-//! Ray hits and Fresnel values, step by step: each step is tested where it is made, and the first failure ends the work.
+//! Ray hits, Fresnel values and panes of glass, step by step: each step is tested where it is made, and the first failure ends the work.
 
 /// A step is NaN or infinite, or an input is.
 pub const NOT_FINITE: u32 = 20;
@@ -176,6 +176,35 @@ pub fn fresnel(cos1: f64, n1: f64, n2: f64) -> Reflection {
     let tm = coefficient(step(n1 * cos2)?, step(n2 * cos1)?)?;
     let f = step(step(0.5 * te)? + step(0.5 * tm)?)?;
     Ok(Some([te, tm, f]))
+}
+
+/// What light of one polarisation adds to how much goes through a pane and how much comes back: f is its coefficient at one side, c the
+/// square of what is left after crossing the pane.
+fn polarised(f: f64, c: f64) -> Result<[f64; 2], u32> {
+    let rest = step(1.0 - step(step(f * f)? * c)?)?;
+    let passed = step(1.0 - f)?;
+    let through = step(step(0.5 * step(passed * passed)?)? / rest)?;
+    let bracket = step(1.0 + step(step(1.0 - step(2.0 * f)?)? * c)?)?;
+    let back = step(step(step(0.5 * f)? * bracket)? / rest)?;
+    Ok([through, back])
+}
+
+/// How much goes through a pane and how much comes back, from FTE, FTM and Ct.
+pub fn pane_factors(te: f64, tm: f64, ct: f64) -> Result<[f64; 2], u32> {
+    finite(&[te, tm, ct])?;
+    in_range([te, tm, ct].iter().all(|x| (0.0..=1.0).contains(x)))?;
+    let c = step(ct * ct)?;
+    let ([te_through, te_back], [tm_through, tm_back]) = (polarised(te, c)?, polarised(tm, c)?);
+    Ok([step(te_through + tm_through)?, step(te_back + tm_back)?])
+}
+
+/// The transmissivity of glass from its transmittance.
+pub fn transmissivity(transmittance: f64) -> Result<f64, u32> {
+    finite(&[transmittance])?;
+    in_range(transmittance > 0.0 && transmittance <= 1.0)?;
+    let square = step(step(0.0072522239 * transmittance)? * transmittance)?;
+    let s = step(root(step(0.8402528435 + square)?))?;
+    step(step(step(s - 0.9166530661)? / 0.0036261119)? / transmittance)
 }
 
 /// The root of x: the largest double whose exact square is at most x; NaN where there is none.

@@ -132,6 +132,19 @@ extern "C" {
         out_len: usize,
         answer: *mut usize,
     ) -> u32;
+    fn kribbelsteen_move_glass(
+        mode: u32,
+        direction: u32,
+        text: *const u8,
+        text_len: usize,
+        records: *const u32,
+        records_len: usize,
+        reals: *const f64,
+        reals_len: usize,
+        out: *mut u8,
+        out_len: usize,
+        answer: *mut usize,
+    ) -> u32;
     fn kribbelsteen_sphere(ray: *const f64, sphere: *const f64, answer: *mut f64) -> u32;
     fn kribbelsteen_sphere_above(ray: *const f64, sphere: *const f64, least: f64, answer: *mut f64) -> u32;
     fn kribbelsteen_ring(ray: *const f64, ring: *const f64, answer: *mut f64) -> u32;
@@ -166,6 +179,8 @@ extern "C" {
         answer: *mut f64,
     ) -> u32;
     fn kribbelsteen_fresnel(cos1: f64, n1: f64, n2: f64, answer: *mut f64) -> u32;
+    fn kribbelsteen_pane_factors(te: f64, tm: f64, ct: f64, answer: *mut f64) -> u32;
+    fn kribbelsteen_transmissivity(transmittance: f64, answer: *mut f64) -> u32;
     fn kribbelsteen_root(x: f64) -> f64;
 }
 
@@ -420,6 +435,35 @@ pub fn write(mode: u32, text: &[u8], records: &[u32], reals: &[f64], out: &mut [
     (reason, answer)
 }
 
+/// Writes a scene out with its glass moved in the direction of a number: as for `write`.
+pub fn move_glass(
+    mode: u32,
+    direction: u32,
+    text: &[u8],
+    records: &[u32],
+    reals: &[f64],
+    out: &mut [u8],
+) -> (u32, [usize; 2]) {
+    let mut answer = [usize::MAX; 2];
+    // SAFETY: each pointer and length is that of a slice, the answer has two entries, and the borrows keep what is written apart.
+    let reason = unsafe {
+        kribbelsteen_move_glass(
+            mode,
+            direction,
+            text.as_ptr(),
+            text.len(),
+            records.as_ptr(),
+            records.len(),
+            reals.as_ptr(),
+            reals.len(),
+            out.as_mut_ptr(),
+            out.len(),
+            answer.as_mut_ptr(),
+        )
+    };
+    (reason, answer)
+}
+
 /// A ray (origin, direction) and a sphere (centre, radius): 0 for a hit, 1 for a miss, or 20 or 21; then the distance, 0 if none.
 pub fn sphere(ray: &[f64; 6], sphere: &[f64; 4]) -> (u32, f64) {
     let mut answer = [f64::NAN];
@@ -523,6 +567,22 @@ pub fn fresnel(cos1: f64, n1: f64, n2: f64) -> (u32, [f64; 3]) {
     // SAFETY: the answer has the three entries that the call writes.
     let outcome = unsafe { kribbelsteen_fresnel(cos1, n1, n2, answer.as_mut_ptr()) };
     (outcome, answer)
+}
+
+/// The factors of a pane, from FTE, FTM and Ct: 0, or 20 or 21; then through and back, both 0 if there are none.
+pub fn pane_factors(te: f64, tm: f64, ct: f64) -> (u32, [f64; 2]) {
+    let mut answer = [f64::NAN; 2];
+    // SAFETY: the answer has the two entries that the call writes.
+    let outcome = unsafe { kribbelsteen_pane_factors(te, tm, ct, answer.as_mut_ptr()) };
+    (outcome, answer)
+}
+
+/// The transmissivity of a transmittance: 0, or 20 or 21; then the transmissivity, 0 if there is none.
+pub fn transmissivity(transmittance: f64) -> (u32, f64) {
+    let mut answer = [f64::NAN];
+    // SAFETY: the answer has the one entry that the call writes.
+    let outcome = unsafe { kribbelsteen_transmissivity(transmittance, answer.as_mut_ptr()) };
+    (outcome, answer[0])
 }
 
 /// The root, rounded down; NaN where there is none.

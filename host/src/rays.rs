@@ -1,10 +1,10 @@
-//! Ray hits on spheres and rings, Fresnel values and the root.
+//! Ray hits on spheres and rings, Fresnel values, panes of glass and the root.
 
 use crate::raw;
 use std::error::Error;
 use std::fmt;
 
-/// Why a hit or a reflection is refused.
+/// Why a hit, a reflection or a pane is refused.
 #[derive(Clone, Copy, Debug, PartialEq, Eq, Hash)]
 #[repr(u32)]
 pub enum Step {
@@ -24,7 +24,7 @@ impl Step {
         match number {
             20 => Step::NotFinite,
             21 => Step::OutOfRange,
-            _ => unreachable!("the library refuses hits and reflections by 20 and 21"),
+            _ => unreachable!("the library refuses hits, reflections and panes by 20 and 21"),
         }
     }
 }
@@ -160,6 +160,49 @@ pub fn fresnel(cos1: f64, n1: f64, n2: f64) -> Result<Reflection, Step> {
     match raw::fresnel(cos1, n1, n2) {
         (0, [te, tm, f]) => Ok(Reflection::Coefficients { te, tm, f }),
         (1, _) => Ok(Reflection::Total),
+        (number, _) => Err(Step::from_number(number)),
+    }
+}
+
+/// What becomes of light that comes to a pane of glass, all reflections between its two sides counted, but for the colour.
+#[derive(Clone, Copy, Debug, PartialEq)]
+pub struct Factors {
+    /// How much of it goes through.
+    pub through: f64,
+    /// How much of it comes back.
+    pub back: f64,
+}
+
+/// The factors of a pane from Fresnel's coefficients of one side, and from what is left of the light that crosses it once. Each is from
+/// 0 to 1.
+///
+/// ```
+/// use kribbelsteen::{pane_factors, Factors, Step};
+///
+/// assert_eq!(pane_factors(0.5, 0.5, 0.0), Ok(Factors { through: 0.25, back: 0.5 }));
+/// assert_eq!(pane_factors(1.0, 0.5, 1.0), Err(Step::NotFinite));
+/// ```
+pub fn pane_factors(te: f64, tm: f64, ct: f64) -> Result<Factors, Step> {
+    match raw::pane_factors(te, tm, ct) {
+        (0, [through, back]) => Ok(Factors { through, back }),
+        (number, _) => Err(Step::from_number(number)),
+    }
+}
+
+/// The transmissivity of glass from its transmittance, which is above 0 and at most 1. It is below 0 for a transmittance under about
+/// 0.0001.
+///
+/// ```
+/// use kribbelsteen::{transmissivity, Step};
+///
+/// let clear = transmissivity(0.88)?;
+/// assert!((0.95..0.97).contains(&clear));
+/// assert_eq!(transmissivity(0.0), Err(Step::OutOfRange));
+/// # Ok::<(), Step>(())
+/// ```
+pub fn transmissivity(transmittance: f64) -> Result<f64, Step> {
+    match raw::transmissivity(transmittance) {
+        (0, transmissivity) => Ok(transmissivity),
         (number, _) => Err(Step::from_number(number)),
     }
 }

@@ -1,7 +1,7 @@
 //! Scene texts, read into lent tables.
 
 use crate::{polygon_in_table, polygon_in_table_above, questions, raw, writing};
-use crate::{Finish, PolygonRefusal, Question, Ray, Type, Unwritten, Word, Words, INDEX, PAIR, RECORD};
+use crate::{Direction, Finish, PolygonRefusal, Question, Ray, Type, Unwritten, Word, Words, INDEX, PAIR, RECORD};
 use std::error::Error;
 use std::fmt;
 
@@ -241,6 +241,8 @@ pub struct Scene<'s> {
     pub(crate) text: &'s [u8],
     pub(crate) records: &'s [u32],
     pub(crate) reals: &'s [f64],
+    /// With the room behind those used.
+    lent_reals: &'s [f64],
     /// Empty where the reading takes no pair table.
     pairs: &'s [u32],
 }
@@ -275,7 +277,8 @@ impl<'s> Scene<'s> {
 
     /// The used parts of the tables of an accepted scene, with no pairs.
     pub(crate) fn of(mode: Mode, text: &'s [u8], records: &'s [u32], reals: &'s [f64], counts: Counts) -> Scene<'s> {
-        Scene { mode, text, records: &records[..RECORD * counts.primitives], reals: &reals[..counts.reals], pairs: &[] }
+        let (records, used) = (&records[..RECORD * counts.primitives], &reals[..counts.reals]);
+        Scene { mode, text, records, reals: used, lent_reals: reals, pairs: &[] }
     }
 
     /// How the scene was read.
@@ -342,6 +345,12 @@ impl<'s> Scene<'s> {
     /// Writes the scene's tidy text into a lent output, as [`write`](crate::write) does in the mode of its reading.
     pub fn write<'o>(&self, out: &'o mut [u8]) -> Result<&'o [u8], Unwritten> {
         writing::write(self.mode, self.text, self.records, self.reals, out)
+    }
+
+    /// Writes the scene with its glass moved into a lent output, as [`move_glass`](crate::move_glass) does in the mode of its reading.
+    /// There is as much room for reals as the reading was lent.
+    pub fn move_glass<'o>(&self, direction: Direction, out: &'o mut [u8]) -> Result<&'o [u8], Unwritten> {
+        writing::move_glass(self.mode, direction, self.text, self.records, self.lent_reals, out)
     }
 
     /// The primitive of a number, from 1.

@@ -81,6 +81,26 @@ void alias trim wall
 written=22 place=0 length=0
 written=23 place=0 length=0
 written=22 place=0 length=0
+moved=0 place=0 length=76
+void glass clear
+0
+0
+4 .96 .96 .96 1.52
+void glass grey
+0
+0
+4 .5 .5 .5 1.52
+moved=13 place=0 length=0
+moved=0 place=0 length=66
+void glass clear
+0
+0
+3 .96 .96 .96
+void glass grey
+0
+0
+3 .5 .5 .5
+moved=23 place=0 length=0
 word 1 4
 word 6 5
 word 12 0
@@ -96,6 +116,10 @@ fresnel 0 0.25 0.25 0.25
 fresnel 1 0 0 0
 fresnel 0 1 1 1
 fresnel 20 0 0 0
+pane 0 0.25 0.5
+pane 20 0 0
+transmissivity 0 0.958
+transmissivity 21 0
 leaving, sphere 0 1.00098
 leaving, ring 0 1.00098
 leaving, polygon 1 0

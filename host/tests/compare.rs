@@ -14,7 +14,7 @@ use reference::index::{self, INDEX};
 use reference::random::Random;
 use reference::saves::{Comparison, Save};
 use reference::scene::{pairs_needed, Counts, Refused, PAIR, RECORD};
-use reference::{mixtures, rays, saves, scene, tidy, tuned};
+use reference::{glass, mixtures, rays, saves, scene, tidy, tuned};
 use std::collections::BTreeMap;
 use std::fmt::Debug;
 use std::io::Write;
@@ -1041,31 +1041,50 @@ fn lines_along_any_tables_end() {
 
 // ---- scenes written out
 
-/// Writes a scene out both ways, compares all that comes of it, and gives the reason and the tidy text.
-fn compare_writing(mode: u32, text: &[u8], records: &[u32], reals: &[f64], room: usize) -> (u32, Vec<u8>) {
+/// What is written out: a text and its tables, read in a mode.
+#[derive(Clone, Copy)]
+struct Source<'s> {
+    mode: u32,
+    text: &'s [u8],
+    records: &'s [u32],
+    reals: &'s [f64],
+}
+
+/// Has a call write into an output of so many bytes, compares all that comes of it, and gives the reason and the text.
+fn compare_output(
+    what: &str,
+    source: Source,
+    room: usize,
+    call: impl Fn(&[u32], &[f64], &mut [u8]) -> (u32, [usize; 2]),
+    expected: Result<Vec<u8>, Refused>,
+) -> (u32, Vec<u8>) {
+    let Source { mode, text, records, reals } = source;
     let filling = 0xa5;
     let mut out = Lent::new(room, filling);
     let (lent_records, lent_reals) = (records.to_vec(), reals.to_vec());
-    let ours = raw::write(mode, text, &lent_records, &lent_reals, out.table());
-    let (expected, tidy) = match tidy::write(mode == 1, text, records, reals, room) {
-        Ok(tidy) => ((0, [0, tidy.len()]), tidy),
+    let ours = call(&lent_records, &lent_reals, out.table());
+    let (expected, written) = match expected {
+        Ok(written) => ((0, [0, written.len()]), written),
         Err(refused) => ((refused.reason, [refused.place, 0]), Vec::new()),
     };
     let shown = || {
-        format!(
-            "mode {mode}, {room} bytes for {:?}, tables of {} and {}",
-            String::from_utf8_lossy(text),
-            records.len(),
-            reals.len()
-        )
+        let text = String::from_utf8_lossy(text);
+        format!("{what}, mode {mode}, {room} bytes for {text:?}, tables of {} and {}", records.len(), reals.len())
     };
     assert_eq!(ours, expected, "{}", shown());
-    let mut output = tidy.clone();
+    let mut output = written.clone();
     output.resize(room, 0);
     assert!(out.table() == output, "output of {}", shown());
     assert!(out.margins_are(filling), "written outside the output: {}", shown());
     assert!(lent_records == records && bits(&lent_reals).eq(bits(reals)), "a table was written: {}", shown());
-    (ours.0, tidy)
+    (ours.0, written)
+}
+
+/// Writes a scene out both ways, and gives the reason and the tidy text.
+fn compare_writing(mode: u32, text: &[u8], records: &[u32], reals: &[f64], room: usize) -> (u32, Vec<u8>) {
+    let call = |records: &[u32], reals: &[f64], out: &mut [u8]| raw::write(mode, text, records, reals, out);
+    let expected = tidy::write(mode == 1, text, records, reals, room);
+    compare_output("written", Source { mode, text, records, reals }, room, call, expected)
 }
 
 /// Tables that are not quite those of a reading.
@@ -1137,6 +1156,144 @@ fn the_longest_tidy_text_is_written_alike() {
     assert_eq!(raw::read(0, &text, &mut records, &mut reals, &mut [1; PAIR]).0, 0);
     for (room, expected) in [(scene::MOST_BYTES, 23), (scene::MOST_BYTES + 1, 0), (scene::MOST_BYTES + 2, 0)] {
         assert_eq!(compare_writing(0, &text, &records, &reals, room).0, expected);
+    }
+}
+
+// ---- glass moved
+
+const FORTH: u32 = 0;
+const BACK: u32 = 1;
+
+/// Moves the glass of a scene both ways, and gives the reason and the moved text.
+fn compare_moving(direction: u32, source: Source, room: usize) -> (u32, Vec<u8>) {
+    let Source { mode, text, records, reals } = source;
+    let call =
+        |records: &[u32], reals: &[f64], out: &mut [u8]| raw::move_glass(mode, direction, text, records, reals, out);
+    let expected = glass::write(mode == 1, direction == BACK, text, records, reals, room);
+    compare_output(&format!("moved by {direction}"), source, room, call, expected)
+}
+
+/// The tables of an accepted text, with room for so many reals more.
+fn tables_of(mode: u32, text: &[u8], more: usize) -> (Vec<u32>, Vec<f64>) {
+    let (mut records, mut reals) = (vec![1; RECORD * scene::MOST_RECORDS], vec![1.0; scene::MOST_REALS]);
+    let counts = scene::read_without_pairs(mode == 1, text, &mut records, &mut reals).expect("an accepted text");
+    records.truncate(RECORD * counts.primitives);
+    reals.truncate(counts.reals);
+    reals.resize(counts.reals + more, 0.0);
+    (records, reals)
+}
+
+/// The moved text of an accepted text.
+fn moved_whole(direction: u32, mode: u32, text: &[u8]) -> (u32, Vec<u8>) {
+    let (records, reals) = tables_of(mode, text, scene::MOST_REALS);
+    let source = Source { mode, text, records: &records, reals: &reals };
+    compare_moving(direction, source, scene::MOST_BYTES)
+}
+
+/// An accepted scene at all rooms that matter: for no real more, for as many as are added, and about the length of the moved text.
+fn move_accepted(random: &mut Random, tally: &mut Tally, direction: u32, mode: u32, text: &[u8]) {
+    let (reason, moved) = moved_whole(direction, mode, text);
+    tally.add(reason);
+    let tidy = tidy::tidy(text);
+    let added = moved.len().saturating_sub(tidy.len()) / 5;
+    for more in [0, added.saturating_sub(1), added, added + 1, random.below(added + 1)] {
+        let (records, reals) = tables_of(mode, text, more);
+        let source = Source { mode, text, records: &records, reals: &reals };
+        for room in [moved.len(), moved.len().saturating_sub(1), random.below(moved.len() + 1), moved.len() + 7] {
+            tally.add(compare_moving(direction, source, room).0);
+        }
+    }
+}
+
+/// Forth and back is the tidy text where no fourth real is spelled as it would be written; and moved twice is moved once.
+fn move_there_and_back(mode: u32, text: &[u8]) -> bool {
+    let tidy = tidy::tidy(text);
+    let ((forth_reason, forth), (back_reason, back)) = (moved_whole(FORTH, mode, text), moved_whole(BACK, mode, text));
+    if forth_reason != 0 || back_reason != 0 {
+        return false;
+    }
+    let again = |direction, text: &[u8]| moved_whole(direction, mode, text).1;
+    assert!(again(FORTH, &forth) == forth && again(BACK, &back) == back && again(FORTH, &back) == forth);
+    let came_back = again(BACK, &forth) == tidy;
+    assert_eq!(came_back, back == tidy, "{:?}", String::from_utf8_lossy(text));
+    came_back
+}
+
+#[test]
+fn glass_is_moved_alike() {
+    let mut random = random(19);
+    let mut tally = Tally::new("scenes with glass moved");
+    let (mut back_again, mut accepted) = (0, 0);
+    for _ in 0..scene_count() / 4 {
+        let case = if random.percent(80) { scenes::glass(&mut random) } else { scenes::case(&mut random) };
+        let (mut records, mut reals) = (vec![1; case.records], vec![1.0; case.reals]);
+        let mut pairs = vec![1; pairs_needed(case.records)];
+        let read = expected_read(case.is_archive(), &case.text, &mut records, &mut reals, &mut pairs);
+        let direction = *random.pick(&[FORTH, FORTH, FORTH, BACK, BACK, BACK, 2, u32::MAX]);
+        let (mode, text) = (case.mode, case.text.as_slice());
+        let enough = text.len() + 5 * (read.answer[1] + 1);
+        tally.add(compare_moving(direction, Source { mode, text, records: &records, reals: &reals }, enough).0);
+        if read.reason == 0 {
+            move_accepted(&mut random, &mut tally, direction, mode, text);
+            accepted += 1;
+            back_again += usize::from(move_there_and_back(mode, text));
+        }
+        let (records, reals) = tampered(&mut random, &records, &reals);
+        tally.add(compare_moving(direction, Source { mode, text, records: &records, reals: &reals }, enough).0);
+    }
+    tally.report(reasons().filter(|&reason| reason != 1).chain([22, 23]), 10_000);
+    say(&format!("scenes moved forth and back: {accepted}, of which {back_again} came back"));
+}
+
+/// A moved text is as long as a reading can take, or a byte longer; the output is as long, or a byte shorter.
+#[test]
+fn long_texts_are_moved_alike() {
+    let most = scene::MOST_BYTES;
+    for panes in 0..4 {
+        let three = "void glass g\n0\n0\n3 1 1 1\n".repeat(panes);
+        for (size, expected) in [(most - 5 * panes - 1, 0), (most - 5 * panes, 0), (most - 5 * panes + 1, 1)] {
+            // The last line end is not needed, and a text without it may still be read
+            let tidy = scenes::of_size(&three, size);
+            let text = &tidy[..size - 1];
+            let (records, reals) = tables_of(0, text, panes);
+            let source = Source { mode: 0, text, records: &records, reals: &reals };
+            let len = size + 5 * panes;
+            for (room, small) in [(len, 0), (len + 1, 0), (len - 1, 23), (0, 23)] {
+                let found = compare_moving(FORTH, source, room).0;
+                assert_eq!(found, if expected == 1 { 1 } else { small }, "{panes} panes, {size} bytes, {room}");
+            }
+            // Too long is said before too many reals
+            let short = Source { reals: &reals[..3 * panes], ..source };
+            let found = compare_moving(FORTH, short, 0).0;
+            assert_eq!(
+                found,
+                if expected == 1 {
+                    1
+                } else if panes > 0 {
+                    13
+                } else {
+                    23
+                }
+            );
+        }
+        let four = "void glass g\n0\n0\n4 1 1 1 1.52\n".repeat(panes);
+        let tidy = scenes::of_size(&four, most + 1);
+        let found = moved_whole(BACK, 0, &tidy[..most]).0;
+        assert_eq!(found, if panes == 0 { 1 } else { 0 });
+        assert_eq!(moved_whole(FORTH, 0, &tidy[..most]).0, 1);
+    }
+}
+
+/// No table has room for over 4,096 reals, however long it is.
+#[test]
+fn no_more_reals_than_a_scene_has_are_moved() {
+    for (others, expected) in [(4_092, 0), (4_093, 13)] {
+        let text =
+            format!("void glass g 0 0 3 1 1 1\nvoid mixfunc m 4 void void c d 0 {others}{}", " 1".repeat(others));
+        let (records, reals) = tables_of(0, text.as_bytes(), 9_000);
+        let source = Source { mode: 0, text: text.as_bytes(), records: &records, reals: &reals };
+        assert_eq!(compare_moving(FORTH, source, scene::MOST_BYTES).0, expected);
+        assert_eq!(compare_moving(BACK, source, scene::MOST_BYTES).0, 0);
     }
 }
 
@@ -1336,6 +1493,43 @@ fn light_is_reflected_alike() {
         assert_eq!((outcome, values.map(f64::to_bits)), (expected, coefficients.map(f64::to_bits)), "{shown:?}");
         assert!(values.iter().all(|x| (0.0..=1.0).contains(x)), "{shown:?} gives {values:?}");
         tally.add(outcome);
+    }
+    tally.report([0, 1, 20, 21], 10_000);
+}
+
+fn told_factors(factors: Result<[f64; 2], u32>) -> (u32, [u64; 2]) {
+    factors.map_or_else(|reason| (reason, [0; 2]), |factors| (0, factors.map(f64::to_bits)))
+}
+
+#[test]
+fn panes_are_alike() {
+    let mut random = random(20);
+    let mut tally = Tally::new("factors of panes");
+    let edges = [0.0, -0.0, 5e-324, 1e-200, 0.25, 1.0_f64.next_down(), 1.0, 1.0_f64.next_up(), -5e-324, f64::NAN];
+    let any = (0..float_count()).map(|_| floats::pane(&mut random));
+    let ends = edges.iter().flat_map(|&te| edges.iter().flat_map(move |&tm| edges.map(|ct| [te, tm, ct])));
+    for [te, tm, ct] in ends.chain(any) {
+        let (outcome, factors) = raw::pane_factors(te, tm, ct);
+        let ours = (outcome, factors.map(f64::to_bits));
+        assert_eq!(ours, told_factors(rays::pane_factors(te, tm, ct)), "{te:e}, {tm:e}, {ct:e}");
+        let fractions = [te, tm, ct].iter().all(|x| (0.0..=1.0).contains(x));
+        assert_eq!(outcome == 0, fractions && (ct < 1.0 || te < 1.0 && tm < 1.0), "{te:e}, {tm:e}, {ct:e}");
+        tally.add(outcome);
+    }
+    tally.report([0, 20, 21], 10_000);
+}
+
+#[test]
+fn transmissivities_are_alike() {
+    let mut random = random(21);
+    let mut tally = Tally::new("transmissivities (1 is one below 0)");
+    let edges = [0.0, -0.0, 5e-324, 1e-310, 1e-4, 1.1e-4, 1.0_f64.next_down(), 1.0, 1.0_f64.next_up(), f64::INFINITY];
+    let any = (0..float_count()).map(|_| floats::transmittance(&mut random));
+    for transmittance in edges.into_iter().chain(any) {
+        let ours = raw::transmissivity(transmittance);
+        let expected = rays::transmissivity(transmittance).map_or_else(|reason| (reason, 0.0), |value| (0, value));
+        assert_eq!(told(ours), told(expected), "{transmittance:e}");
+        tally.add(ours.0 + u32::from(ours.1 < 0.0));
     }
     tally.report([0, 1, 20, 21], 10_000);
 }

@@ -119,6 +119,18 @@ static void print_tidy(const char *scene, size_t room) {
     printf("written=%u place=%zu length=%zu\n", (unsigned)reason, answer[0], answer[1]);
 }
 
+static void print_moved(uint32_t direction, const char *scene, size_t real_room, size_t room) {
+    static uint8_t out[512];
+    const uint8_t *text = (const uint8_t *)scene;
+    size_t len = strlen(scene), counts[3], answer[2];
+    uint32_t reason;
+    kribbelsteen_read(KRIBBELSTEEN_NEW, text, len, records, ROOM * KRIBBELSTEEN_RECORD, reals, real_room, pairs,
+                      ROOM * KRIBBELSTEEN_PAIR, counts);
+    reason = kribbelsteen_move_glass(KRIBBELSTEEN_NEW, direction, text, len, records, ROOM * KRIBBELSTEEN_RECORD, reals, real_room, out,
+                                     room, answer);
+    printf("moved=%u place=%zu length=%zu\n%.*s", (unsigned)reason, answer[0], answer[1], (int)answer[1], (const char *)out);
+}
+
 static void print_words(const char *text) {
     size_t at = 0, word[2];
     for (;;) {
@@ -161,6 +173,14 @@ static void print_floats(void) {
     printf("fresnel %u %g %g %g\n", (unsigned)kind, answer[0], answer[1], answer[2]);
     kind = kribbelsteen_fresnel(0, 1.5, 1.5, answer);
     printf("fresnel %u %g %g %g\n", (unsigned)kind, answer[0], answer[1], answer[2]);
+    kind = kribbelsteen_pane_factors(0.5, 0.5, 0, answer);
+    printf("pane %u %g %g\n", (unsigned)kind, answer[0], answer[1]);
+    kind = kribbelsteen_pane_factors(1, 0.5, 1, answer);
+    printf("pane %u %g %g\n", (unsigned)kind, answer[0], answer[1]);
+    kind = kribbelsteen_transmissivity(0.88, answer);
+    printf("transmissivity %u %.3f\n", (unsigned)kind, answer[0]);
+    kind = kribbelsteen_transmissivity(0, answer);
+    printf("transmissivity %u %g\n", (unsigned)kind, answer[0]);
     kind = kribbelsteen_sphere(leaving, sphere, answer);
     printf("leaving, sphere %u %g\n", (unsigned)kind, answer[0]);
     kind = kribbelsteen_ring(leaving, ring, answer);
@@ -204,6 +224,7 @@ int main(void) {
                         "border sphere knob 0 0 4 0 0 0 1\n"
                         "inlay sphere foot 0 0 4 0 0 0 1\n"
                         "void plastic ash 0 0 5 .7 .6 .5 0 0\n";
+    const char *panes = "void glass clear 0 0 3 .96 .96 .96\nvoid glass grey 0 0 4 .5 .5 .5 1.52\n";
     const char *old = "void antimatter hole 1 void 0 0\nhole alias slot hole\n";
     print_scene(KRIBBELSTEEN_NEW, sample);
     print_scene(KRIBBELSTEEN_NEW, "a sphere s 0 0 4 0 0 0 1");
@@ -227,6 +248,10 @@ int main(void) {
     print_changes("", "void mixfunc m 4 void m v f 0 0");
     print_tidy(sample, 512);
     print_tidy(sample, 16);
+    print_moved(KRIBBELSTEEN_FORTH, panes, 8, 512);
+    print_moved(2, panes, 7, 512);
+    print_moved(KRIBBELSTEEN_BACK, panes, 7, 512);
+    print_moved(KRIBBELSTEEN_BACK, panes, 7, 16);
     print_words(" void\tlight ");
     print_floats();
     print_screen("void plastic trim 0 0 5 .2 .2 .2 0 0\n"

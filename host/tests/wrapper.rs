@@ -276,6 +276,36 @@ fn a_scene_is_written_out() {
     assert_eq!(numbers, [13, 22, 23]);
 }
 
+/// Glass of three reals and of four, its index spelled exactly, otherwise and not at all; and an alias of the first.
+const PANES: &[u8] = b"void glass clear 0 0 3 .96 .96 .96\nvoid glass grey 0 0 4 .5 .5 .5 1.52\n\
+    void glass thick 0 0 4 .5 .5 .5 1.520\nvoid alias tint clear\n";
+
+#[test]
+fn glass_is_moved() {
+    let (mut records, mut reals, mut pairs, mut out) = ([9; RECORD * 4], [9.0; 12], [9; PAIR * 4], [9; 150]);
+    let scene = Scene::read(Mode::New, PANES, &mut records, &mut reals, &mut pairs).expect("well-formed");
+    let forth = b"void glass clear\n0\n0\n4 .96 .96 .96 1.52\nvoid glass grey\n0\n0\n4 .5 .5 .5 1.52\n\
+        void glass thick\n0\n0\n4 .5 .5 .5 1.520\nvoid alias tint clear\n";
+    let back = b"void glass clear\n0\n0\n3 .96 .96 .96\nvoid glass grey\n0\n0\n3 .5 .5 .5\n\
+        void glass thick\n0\n0\n4 .5 .5 .5 1.520\nvoid alias tint clear\n";
+    assert_eq!(scene.move_glass(Direction::Forth, &mut out), Ok(&forth[..]));
+    assert!(out[forth.len()..].iter().all(|&byte| byte == 0));
+    assert_eq!(scene.move_glass(Direction::Back, &mut out[..back.len()]), Ok(&back[..]));
+    assert_eq!(scene.move_glass(Direction::Back, &mut out[..back.len() - 1]), Err(Unwritten::OutputTooSmall));
+    let (used, no_room) = (&reals[..11], Unwritten::Refused(Refusal { reason: Reason::NoRealRoom, place: 0 }));
+    assert_eq!(move_glass(Mode::New, Direction::Forth, PANES, &records, used, &mut out), Err(no_room));
+    assert_eq!(out, [0; 150]);
+    assert_eq!(move_glass(Mode::New, Direction::Back, PANES, &records, used, &mut out), Ok(&back[..]));
+    reals[11] = -0.0;
+    assert_eq!(move_glass(Mode::New, Direction::Back, PANES, &records, &reals, &mut out), Err(Unwritten::TablesDiffer));
+    let refusal = Refusal { reason: Reason::NoRecordRoom, place: PANES.len() - 22 };
+    assert_eq!(
+        move_glass(Mode::New, Direction::Forth, PANES, &records[..43], &reals, &mut out),
+        Err(Unwritten::Refused(refusal))
+    );
+    assert_eq!([Direction::Forth, Direction::Back].map(Direction::number), [0, 1]);
+}
+
 #[test]
 fn words_end_where_the_text_does() {
     let text = b" one\n\ttwo ";
@@ -376,6 +406,15 @@ fn light_is_reflected() {
     assert_eq!(fresnel(-0.0, 1.0, 1.5), all(1.0));
     assert_eq!(fresnel(0.0, 1.5, 1.5), Err(Step::NotFinite));
     assert_eq!(fresnel(1.5, 1.0, 1.5), Err(Step::OutOfRange));
+    assert_eq!(pane_factors(0.0, 0.0, 0.5), Ok(Factors { through: 1.0, back: 0.0 }));
+    assert_eq!(pane_factors(0.5, 0.0, 1.0).map(|factors| factors.through), Ok(0.5 * 0.25 / 0.75 + 0.5));
+    assert_eq!(pane_factors(1.0, 0.5, 1.0), Err(Step::NotFinite));
+    assert_eq!(pane_factors(2.0, 0.5, f64::NAN), Err(Step::NotFinite));
+    assert_eq!(pane_factors(0.5, -5e-324, 0.5), Err(Step::OutOfRange));
+    assert!(transmissivity(1.0).is_ok_and(|clear| (1.0..1.1).contains(&clear)));
+    assert!(transmissivity(1e-5).is_ok_and(|dark| dark < 0.0));
+    assert_eq!([5e-324, f64::INFINITY].map(transmissivity), [Err(Step::NotFinite); 2]);
+    assert_eq!([0.0, 1.0_f64.next_up()].map(transmissivity), [Err(Step::OutOfRange); 2]);
     // Rounded down: the nearest double to the root of 2 lies above it
     assert_eq!((root(2.0), root(-0.0), root(-1.0)), (Some(SQRT_2.next_down()), Some(0.0), None));
 }

@@ -45,11 +45,16 @@ pub fn load_argument(argument: usize, text: &mut [u8]) -> Loaded {
     loaded
 }
 
+// Whether an argument is a word of at most nine bytes.
+pub fn is_word(argument: usize, word: &[u8]) -> bool {
+    let mut bytes = [0u8; 9];
+    let n = os::arg(argument, &mut bytes);
+    lexer::same(lexer::part(&bytes, 0, n), word)
+}
+
 // Whether the first argument asks for the archive reading.
 fn has_archive() -> bool {
-    let mut option = [0u8; 9];
-    let n = os::arg(1, &mut option);
-    lexer::same(lexer::part(&option, 0, n), b"--archive")
+    is_word(1, b"--archive")
 }
 
 // How the texts are to be read.
@@ -70,16 +75,22 @@ pub fn first() -> usize
     1
 }
 
+// The number behind the last text's, where the first one has a number of at most 3.
+pub fn end_from(first: usize) -> usize
+    ensures { λ r. ⌜ 1 ≤ r ⌝ }
+{
+    let count = os::arg_count();
+    if count <= lexer::least(first, 3) {
+        return lexer::least(first, 3) + 1;
+    }
+    count
+}
+
 // The number behind the last text's.
 pub fn end() -> usize
     ensures { λ r. ⌜ 1 ≤ r ⌝ }
 {
-    let first = first();
-    let count = os::arg_count();
-    if count <= first {
-        return first + 1;
-    }
-    count
+    end_from(first())
 }
 
 fn is_standard(number: usize) -> bool {
@@ -123,12 +134,16 @@ fn write_name(fd: i32, number: usize, behind: &[u8]) -> bool {
     io::write_all(fd, b"scene=") && io::write_all(fd, &name[..n]) && io::write_all(fd, behind)
 }
 
-// The line above what is printed of a text, where there are several.
-pub fn print_heading(number: usize) -> bool {
-    if end() <= first() + 1 {
+// The line above what is printed of a text, where there are several behind the first.
+pub fn print_heading_from(first: usize, number: usize) -> bool {
+    if end_from(first) <= lexer::least(first, 3) + 1 {
         return true;
     }
     output::noticed(write_name(STDOUT_FILENO, number, b"\n"))
+}
+
+pub fn print_heading(number: usize) -> bool {
+    print_heading_from(first(), number)
 }
 
 fn write_unreadable(fd: i32, number: usize) -> bool {

@@ -50,7 +50,7 @@ const DIELECTRIC: u32 = 21;
 
 const INTERFACE: u32 = 22;
 
-const GLASS: u32 = 23;
+pub const GLASS: u32 = 23;
 
 const ANTIMATTER: u32 = 24;
 

@@ -1,6 +1,6 @@
 // The entry points for host programs, under C's calling convention: numbers, slices and small arrays, no precondition. Each is
 // the call of the same promise in `host_reading`, `host_scenes`, `host_shown`, `host_saves`, `host_lines`, `host_writing`,
-// `host_rays`, `host_polygon`, `ranks` or `root`.
+// `host_moving`, `host_rays`, `host_polygon`, `host_pane`, `ranks` or `root`.
 ghost use mathlib.Core.List.{[], _∷_};
 ghost use mathlib.Core.Path.{_≡_};
 ghost use lib.ListN.{length, replicate};
@@ -11,6 +11,8 @@ ghost use Rattle.hits.specs.Ring.{ringHit};
 ghost use Rattle.hits.specs.Sphere.{sphereHit};
 ghost use Rattle.host_lines.specs.Host.{HostLine};
 ghost use Rattle.host_lines.specs.Ordered.{HostOrdered};
+ghost use Rattle.host_moving.specs.Host.{HostMoves};
+ghost use Rattle.host_pane.specs.Host.{factorsKind, factorsValues, transmittedKind, transmittedValues};
 ghost use Rattle.host_rays.specs.Host.{hitKind, hitValues, rayIn, reflectionKind, reflectionValues, ringIn, sphereIn};
 ghost use Rattle.host_saves.specs.Host.{HostReadsBoth};
 ghost use Rattle.host_reading.specs.Host.{HostReads, HostReadsIndexed};
@@ -18,6 +20,8 @@ ghost use Rattle.host_scenes.specs.Host.{finishReason, finishValues, namePart, 
 ghost use Rattle.host_shown.specs.Host.{shownMany, shownReason};
 ghost use Rattle.host_writing.specs.Host.{HostWrites};
 ghost use Rattle.ordered.specs.Lines.{scene};
+ghost use Rattle.pane.specs.Factors.{factorsOf};
+ghost use Rattle.pane.specs.Transmissivity.{transmissivityOf};
 ghost use Rattle.polygon.specs.Polygon.{polygonHit};
 ghost use Rattle.ranks.specs.Rank.{orderTable};
 ghost use Rattle.root.specs.Root.{rootOf};
@@ -218,6 +222,22 @@ pub extern "C" fn kribbelsteen_write(
     host_writing::tell_written(mode, text, records, reals, out, answer)
 }
 
+// Writes a scene out with its glass moved: the reason or 0, and the place of a refusal and the length of the text.
+#[no_mangle]
+pub extern "C" fn kribbelsteen_move_glass(
+    mode: u32,
+    direction: u32,
+    text: &[u8],
+    records: &[u32],
+    reals: &[f64],
+    out: &mut [u8],
+    answer: &mut [usize; 2],
+) -> u32
+    ensures { λ r. ⌜ HostMoves mode direction (now (text .entry)) (now (records .entry)) (now (reals .entry)) (now (out .entry)) r (now (answer .exit)) (now (out .exit)) ⌝ }
+{
+    host_moving::tell_moved(mode, direction, text, records, reals, out, answer)
+}
+
 // A ray on a sphere: 0 hit, 1 miss, or the refusal's number, and the distance.
 #[no_mangle]
 pub extern "C" fn kribbelsteen_sphere(
@@ -335,6 +355,24 @@ pub extern "C" fn kribbelsteen_fresnel(cos1: f64, n1: f64, n2: f64, answer: &mut
     ensures { λ r. ⌜ now (answer .exit) ≡ reflectionValues (fresnelOf cos1 n1 n2) ⌝ }
 {
     host_rays::tell_reflection(cos1, n1, n2, answer)
+}
+
+// The factors of a pane of glass: 0 or the refusal's number, and what goes through and what comes back.
+#[no_mangle]
+pub extern "C" fn kribbelsteen_pane_factors(te: f64, tm: f64, ct: f64, answer: &mut [f64; 2]) -> u32
+    ensures { λ r. ⌜ r ≡ factorsKind (factorsOf te tm ct) ⌝ }
+    ensures { λ r. ⌜ now (answer .exit) ≡ factorsValues (factorsOf te tm ct) ⌝ }
+{
+    host_pane::tell_factors(te, tm, ct, answer)
+}
+
+// The transmissivity of a transmittance: 0 or the refusal's number, and the value.
+#[no_mangle]
+pub extern "C" fn kribbelsteen_transmissivity(transmittance: f64, answer: &mut [f64; 1]) -> u32
+    ensures { λ r. ⌜ r ≡ transmittedKind (transmissivityOf transmittance) ⌝ }
+    ensures { λ r. ⌜ now (answer .exit) ≡ transmittedValues (transmissivityOf transmittance) ⌝ }
+{
+    host_pane::tell_transmissivity(transmittance, answer)
 }
 
 // The largest double whose exact square is at most x; NaN where there is none.

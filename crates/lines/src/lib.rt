@@ -31,7 +31,7 @@ pub fn put_spaced(out: &mut [u8], c: Cursor, word: &[u8]) -> Cursor
 }
 
 // So many words of the text, each behind a space.
-fn put_words(out: &mut [u8], c: Cursor, text: &[u8], from: usize, count: usize) -> Cursor
+pub fn put_words(out: &mut [u8], c: Cursor, text: &[u8], from: usize, count: usize) -> Cursor
     ensures { λ r. ⌜ Puts (now (out .entry)) c (spaced (wordsFrom (now (text .entry)) from count)) r (now (out .exit)) ⌝ }
 {
     let mut end = c;
@@ -57,7 +57,7 @@ fn put_counted(out: &mut [u8], c: Cursor, text: &[u8], from: usize, count: usize
 }
 
 // The place behind so many words.
-fn skip_words(text: &[u8], at: usize, count: usize) -> usize
+pub fn skip_words(text: &[u8], at: usize, count: usize) -> usize
     ensures { λ r. ⌜ r ≡ behindWords (now (text .entry)) at count ⌝ }
 {
     let mut place = at;

@@ -1,6 +1,6 @@
-// The answer to each case on standard input: a ray at a sphere, a ring or a polygon, a Fresnel value or a root. A case is a line:
-// its kind, and the bits of its doubles in hex. A ray's least distance is 0, which the lamp tracer passes by name; kinds that end
-// in _above have it as the last number, and those in _default name none.
+// The answer to each case on standard input: a ray at a sphere, a ring or a polygon, a Fresnel value, a pane of glass or a root. A
+// case is a line: its kind, and the bits of its doubles in hex. A ray's least distance is 0, which the lamp tracer passes by name;
+// kinds that end in _above have it as the last number, and those in _default name none.
 use fresnel::Reflection;
 use hits::Hit;
 use hits::Ray;
@@ -8,6 +8,8 @@ use hits::Ring;
 use hits::Sphere;
 use libc::STDIN_FILENO;
 use libc::STDOUT_FILENO;
+use pane::Interreflection;
+use pane::Transmitted;
 use steps::Vector;
 ghost use Prim.Native.Nat.{_+_, _≤_};
 
@@ -244,13 +246,47 @@ fn print_shape(kind: &[u8], numbers: &[f64; NUMBERS], count: usize) -> bool {
     print_polygon(kind, numbers, count)
 }
 
+fn print_factors(factors: Interreflection) {
+    match factors {
+        Interreflection::Both(through, back) => {
+            print(b"factors");
+            print_double(through);
+            print_double(back);
+        }
+        Interreflection::Refused(reason) => print_refusal(reason),
+    }
+}
+
+fn print_transmitted(transmitted: Transmitted) {
+    match transmitted {
+        Transmitted::Transmissivity(t) => {
+            print(b"transmissivity");
+            print_double(t);
+        }
+        Transmitted::Refused(reason) => print_refusal(reason),
+    }
+}
+
+// Answers whether the kind is one of a pane of glass.
+fn print_pane(kind: &[u8], numbers: &[f64; NUMBERS], count: usize) -> bool {
+    if (count == 3) & lexer::same(kind, b"factors") {
+        print_factors(pane::factors(numbers[0], numbers[1], numbers[2]));
+        return true;
+    }
+    if (count == 1) & lexer::same(kind, b"transmissivity") {
+        print_transmitted(pane::transmissivity(numbers[0]));
+        return true;
+    }
+    false
+}
+
 fn print_answer(kind: &[u8], numbers: &[f64; NUMBERS], count: usize) {
     if (count == 3) & lexer::same(kind, b"fresnel") {
         print_reflection(fresnel::fresnel(numbers[0], numbers[1], numbers[2]));
     } else if (count == 1) & lexer::same(kind, b"root") {
         print(b"root");
         print_double(root::root(numbers[0]));
-    } else if !print_shape(kind, numbers, count) {
+    } else if !(print_pane(kind, numbers, count) || print_shape(kind, numbers, count)) {
         print(b"bad");
     }
     print(b"\n");

@@ -64,17 +64,17 @@ module _ (text : Bytes) (table : List ℕ) where
     one-record = rw add-one
 
   -- what they must say for a statement's body, and then the text is the statement's
-  record PrimitiveRow (q : Record) (t : ℕ) (ss : List Bytes) (rs : List Literal) : Type 0 where
-    target : q .target ≡ 0
-    type : q .type ≡ t
-    strings : stringWords text (q .name) (q .strings) ≡ ss
-    reals : realWords text (q .name) (q .strings) (q .reals) ≡ numeralWords rs
+  pub record PrimitiveRow (q : Record) (t : ℕ) (ss : List Bytes) (rs : List Literal) : Type 0 where
+    pub target : q .target ≡ 0
+    pub type : q .type ≡ t
+    pub strings : stringWords text (q .name) (q .strings) ≡ ss
+    pub reals : realWords text (q .name) (q .strings) (q .reals) ≡ numeralWords rs
 
-  record AliasRow (q : Record) (x : Bytes) : Type 0 where
-    target : eqb (q .target) 0 ≡ false
-    name : nameIn text table (q .target) ≡ x
+  pub record AliasRow (q : Record) (x : Bytes) : Type 0 where
+    pub target : eqb (q .target) 0 ≡ false
+    pub name : nameIn text table (q .target) ≡ x
 
-  abbrev BodyRow : Record → Body → Type 0
+  abbrev pub BodyRow : Record → Body → Type 0
   BodyRow q (primitive t ss rs) = PrimitiveRow q t ss rs
   BodyRow q (alias x) = AliasRow q x
 
@@ -93,14 +93,14 @@ module _ (r : Settings) (text : Bytes) (es : List Entry) (n : ℕ) (reads : read
   table = recordImage text n (accepted es)
 
   -- the same entries, split one further on
-  next : (l : List Entry) (e : Entry) (x : List Entry) → es ≡ l ++ e ∷ x → es ≡ l ++ e ∷ [] ++ x
+  pub next : (l : List Entry) (e : Entry) (x : List Entry) → es ≡ l ++ e ∷ x → es ≡ l ++ e ∷ [] ++ x
   next l e x q = q ∙ sym (append-assoc l (e ∷ []) x)
 
-  record-at : (l : List Entry) (e : Entry) (x : List Entry) → es ≡ l ++ e ∷ x → recordIn table (suc (length x)) ≡ recordOf l e x
+  pub record-at : (l : List Entry) (e : Entry) (x : List Entry) → es ≡ l ++ e ∷ x → recordIn table (suc (length x)) ≡ recordOf l e x
   unfolding recordImage
   record-at l e x q = record-is text es n l e x q
 
-  name-of : (l : List Entry) (e : Entry) (x : List Entry) → es ≡ l ++ e ∷ x → nameIn text table (suc (length x)) ≡ e .statement .name
+  pub name-of : (l : List Entry) (e : Entry) (x : List Entry) → es ≡ l ++ e ∷ x → nameIn text table (suc (length x)) ≡ e .statement .name
   unfolding recordImage
   name-of l e x q = name-is text es n l e x q (read-read r text es reads)
 
@@ -122,7 +122,7 @@ module _ (r : Settings) (text : Bytes) (es : List Entry) (n : ℕ) (reads : read
     linked = (linked-split (statements l) (e .statement ∷ statements x) (subst Linked (split-statements es l e x q) (accepted-linked r text es reads))) .1 .0
 
     -- `void` for link 0, and else the name of the record that the link leads to
-    modifier-word : linkWord text table (recordOf l e x .modifier) ≡ e .statement .modifier
+    pub modifier-word : linkWord text table (recordOf l e x .modifier) ≡ e .statement .modifier
     unfolding recordOf
     modifier-word = go (same m void) refl (linked .modifier)
       where
@@ -136,7 +136,7 @@ module _ (r : Settings) (text : Bytes) (es : List Entry) (n : ℕ) (reads : read
             let k = leads (l ++ e ∷ []) x (next l e x q) m (d .0) (d .1) in
             ap (λ (b : Bool). cond b void (nameIn text table (latest m (statements x)))) (k .0) ∙ k .1
 
-    body-row : (b : Body) → e .statement .body ≡ b → BodyRow text table (recordOf l e x) b
+    pub body-row : (b : Body) → e .statement .body ≡ b → BodyRow text table (recordOf l e x) b
     unfolding recordOf
     body-row (primitive t ss rs) b = record {
       target = ap (λ (z : Body). targetLink z (statements x)) b;
@@ -173,7 +173,7 @@ module _ (r : Settings) (text : Bytes) (es : List Entry) (n : ℕ) (reads : read
           name = ap (λ (z : ℕ). nameIn text table z) a ∙ k .1;
         }
 
-    record-text : recordText text table (suc (length x)) ≡ statementText (e .statement)
+    pub record-text : recordText text table (suc (length x)) ≡ statementText (e .statement)
     record-text =
         let at = record-at l e x q in
         row-text text table (suc (length x)) (e .statement .modifier) (e .statement .name) (e .statement .body)

@@ -20,7 +20,7 @@ fn link_word<'a>(none: &'a [u8], text: &'a [u8], records: &[u32], n: usize) -> &
 }
 
 // The modifier of record n, a word for its type, and its name.
-fn put_head(
+pub fn put_head(
     out: &mut [u8],
     c: Cursor,
     text: &[u8],
@@ -51,7 +51,7 @@ fn put_primitive(out: &mut [u8], c: Cursor, text: &[u8], records: &[u32], n: usi
 }
 
 // Record n, a primitive or an alias.
-fn put_record(out: &mut [u8], c: Cursor, text: &[u8], records: &[u32], n: usize) -> Cursor
+pub fn put_record(out: &mut [u8], c: Cursor, text: &[u8], records: &[u32], n: usize) -> Cursor
     ensures { λ r. ⌜ Puts (now (out .entry)) c (recordText (now (text .entry)) (now (records .entry)) n) r (now (out .exit)) ⌝ }
 {
     let target = table::field(records, n, table::TARGET) as usize;

@@ -53,7 +53,7 @@ module _ (r : Settings) where
   body-back d (primitive t ss rs) h u = rw (le-leb (realsUsed d + length rs) (r .reals) u)
   body-back d (alias x) h u = h
 
-  fit-back : (D : List Statement) → Linked D → length D ≤ r .records → realsUsed D ≤ r .reals → Sound r D
+  pub fit-back : (D : List Statement) → Linked D → length D ≤ r .records → realsUsed D ≤ r .reals → Sound r D
   unfolding realsUsed
   fit-back [] h n u = tt
   fit-back (s ∷ d) h n u =

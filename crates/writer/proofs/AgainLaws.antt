@@ -20,7 +20,7 @@ use Rattle.writer.specs.Answer.{refused, fitted, outcomeOf}
 use Rattle.writer.specs.Again.{writtenFrom, WriteAgainLaw}
 
 -- the tables that a reading leaves match it
-own-match : (text : Bytes) (n m : ℕ) (x : Reading) → length (recordImage text n x) ≡ n → length (realImage m x) ≡ m → tablesMatch text (recordImage text n x) (realImage m x) x ≡ true
+pub own-match : (text : Bytes) (n m : ℕ) (x : Reading) → length (recordImage text n x) ≡ n → length (realImage m x) ≡ m → tablesMatch text (recordImage text n x) (realImage m x) x ≡ true
 unfolding tablesMatch
 own-match text n m x e f = (λ i. same (recordImage text n x) (recordImage text (e i) x) && sameReals (realImage m x) (realImage (f i) x)) ∙ rw (same-refl (recordImage text n x), reals-same (realImage m x))
 

@@ -24,7 +24,7 @@ fn clear(out: &mut [u8])
 }
 
 // Zeroes the output from a place on.
-fn clear_from(out: &mut [u8], at: usize)
+pub fn clear_from(out: &mut [u8], at: usize)
     ensures { λ _. ⌜ now (out .exit) ≡ take at (now (out .entry)) ++ replicate (length (now (out .entry)) - at) 0 ⌝ }
 {
     let start = lexer::least(at, out.len());

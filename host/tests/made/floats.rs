@@ -1,4 +1,4 @@
-//! Doubles for rays, shapes, reflections and roots: ordinary, grazing, huge, tiny, subnormal, NaN and infinite.
+//! Doubles for rays, shapes, reflections, panes and roots: ordinary, grazing, huge, tiny, subnormal, NaN and infinite.
 
 use crate::reference::random::Random;
 
@@ -353,6 +353,40 @@ pub fn fresnel(random: &mut Random) -> [f64; 3] {
         _ => [cos1, n1, n2],
     };
     [cos1, n1, n2]
+}
+
+/// A number from 0 to 1, mostly: at the ends, beside them or between.
+fn fraction(random: &mut Random) -> f64 {
+    let small = random.unit() * 2_f64.powi(-(random.below(1070) as i32));
+    match random.below(12) {
+        0 => 0.0,
+        1 | 2 => 1.0,
+        3 => nudged(random, 1.0),
+        4 => 1.0 - random.unit() * 2_f64.powi(-(random.below(54) as i32)),
+        5 => small,
+        6 if random.percent(50) => special(random),
+        7 if random.percent(30) => of_any_size(random),
+        _ => random.unit(),
+    }
+}
+
+/// FTE, FTM and Ct.
+pub fn pane(random: &mut Random) -> [f64; 3] {
+    if random.percent(3) {
+        return wild(random);
+    }
+    all(random, fraction)
+}
+
+/// A transmittance. Below about 1e-4 the transmissivity is negative, and for the least subnormals no double.
+pub fn transmittance(random: &mut Random) -> f64 {
+    match random.below(8) {
+        0 => f64::from_bits(random.bits() >> random.within(12, 63)),
+        1 => 2e-4 * random.unit(),
+        2 => of_any_size(random).abs().min(1.0),
+        3 if random.percent(20) => of_any_bits(random),
+        _ => fraction(random),
+    }
 }
 
 /// A number whose root is asked for.

@@ -80,6 +80,9 @@ const RULED: [&str; 13] = [
     "dielectric",
     "interface",
 ];
+/// Fourth reals of glass: the one that three reals stand for, others of its value, and some near its spelling.
+const INDICES: [&str; 12] =
+    ["1.52", "1.52", "1.52", "1.52", "1.52", "1.520", "1.5", "+1.52", "01.52", "1.52e0", "1.521", "1.53"];
 const NAMES: [&str; 15] =
     ["wall", "desk", "deskfront", "lamp", "trim", "a", "b", "x#y", "q!", "#h", "void2", "alias", "sphere", "voi", "0"];
 const BLANKS: [&str; 12] = [" ", " ", " ", " ", " ", " ", "\n", "\t", "  ", "\r\n", "\x0b", "\x0c"];
@@ -118,6 +121,8 @@ fn real(random: &mut Random, kind: &str, at: usize) -> String {
         numerals::any(random)
     } else if kind == "ring" && at == 7 {
         "1e3".to_owned()
+    } else if kind == "glass" && at == 3 && random.percent(80) {
+        (*random.pick(&INDICES)).to_owned()
     } else if RULED.contains(&kind) || kind == "glass" && at == 3 {
         numerals::positive(random)
     } else {
@@ -609,6 +614,47 @@ pub fn pair_table(random: &mut Random, records: &[u32]) -> Vec<u32> {
         .collect();
     pairs.truncate(pairs.len().saturating_sub(random.below(40).saturating_sub(37)));
     pairs
+}
+
+// ---- glass
+
+/// A statement of glass, of three reals or four.
+fn pane(random: &mut Random, given: &mut Given) -> Words {
+    let (modifier, name) = (given.modifier(random), name(random));
+    given.give(&name, false);
+    let reals = random.within(3, 4);
+    let counts = [0, 0, reals].map(|count| count_word(random, count));
+    let mut words = vec![modifier, b"glass".to_vec(), name];
+    words.extend(counts);
+    words.extend((0..reals).map(|at| real(random, "glass", at).into_bytes()));
+    words
+}
+
+/// A scene of which much is glass and aliases of glass.
+pub fn glass(random: &mut Random) -> Case {
+    let mode = mode(random);
+    let mut given = Given::default();
+    let size = if random.percent(95) { random.below(16) } else { random.within(16, 300) };
+    let mut statements: Vec<Words> = (0..size)
+        .map(|_| if random.percent(60) { pane(random, &mut given) } else { statement(random, mode, &mut given) })
+        .collect();
+    if random.percent(15) {
+        spoil(random, &mut statements);
+    }
+    let damages = usize::from(random.percent(5));
+    laid_out(random, mode, &statements, damages)
+}
+
+/// An accepted text in its tidy form, of so many bytes: these statements, and strings of a mixture that make up the rest.
+pub fn of_size(statements: &str, size: usize) -> Vec<u8> {
+    let (strings, words) = (1_500, 1_498);
+    let front = format!("{statements}void mixfunc m\n{strings} void void");
+    let back = "\n0\n0\n";
+    let letters = size - front.len() - back.len() - words;
+    let string = |at: usize| format!(" {}", "s".repeat(letters / words + usize::from(at < letters % words)));
+    let text = format!("{front}{}{back}", (0..words).map(string).collect::<String>()).into_bytes();
+    assert_eq!(text.len(), size);
+    text
 }
 
 // ---- names that collide

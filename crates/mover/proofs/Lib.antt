@@ -1,0 +1,4 @@
+pub mod RealsLaws
+pub mod RefusalLaws
+pub mod AnswerLaws
+pub mod AgainLaws

@@ -1,0 +1,5 @@
+pub mod ForthLaws
+pub mod GlassLaws
+pub mod LinkLaws
+pub mod FullLaws
+pub mod ReadBackLaws

@@ -1,0 +1,3 @@
+-- To be believed.
+pub mod Moved
+pub mod ReadBack

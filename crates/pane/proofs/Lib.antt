@@ -1,0 +1,4 @@
+pub mod ConstantLaws
+pub mod NumeralLaws
+pub mod BoundLaws
+pub mod RangeLaws

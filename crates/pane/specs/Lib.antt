@@ -1,0 +1,4 @@
+-- To be believed.
+pub mod Factors
+pub mod Transmissivity
+pub mod Range

@@ -1,4 +1,4 @@
--- The exchange law of the running reader, from its contract and the exchange law of what a scene means.
+-- The exchange law of the running reader, from its contract and the exchange law of what a scene means; and so for any text that agrees.
 use mathlib.Core.Bool.{true}
 use mathlib.Core.List.{List, _++_}
 use mathlib.Core.Path.{_≡_, ap, sym, _∙_}
@@ -24,9 +24,8 @@ use Rattle.scene.specs.Reading.{Entry, accepted, statements}
 use Rattle.scene.specs.Record.{recordIn, records, realImage, nth, answer, recordImage, realTable, settingsFor, Answer as Numbers}
 use Rattle.scene.specs.Told.{tells, renumbered}
 use Rattle.scene.specs.declared.Mode.{Mode}
-use Rattle.sides.proofs.ExchangeLaws.{mixed-exchange}
+use Rattle.sides.proofs.ExchangeLaws.{Agrees, mixed-exchange}
 use Rattle.sides.proofs.SideLaws.{tables-graph}
-use Rattle.sides.specs.Exchange.{MixedExchange, MixedExchanged}
 use Rattle.sides.specs.Read.{read}
 use Rattle.sides.specs.Sides.{pairImage, sceneGraph}
 
@@ -49,35 +48,17 @@ graph-of mode text lent doubles sides r table reals pairs R es e =
     (λ i. graphOf ((R .table ∙ ap (recordImage text (length lent)) e) i) ((R .sides ∙ ap (pairImage (length sides)) e) i))
     ∙ tables-graph text es (length lent) (length sides)
 
--- a call on a text and one on the exchanged text: the entries of both
-module _ (mode : Mode) (p a b q : Bytes) (es : List Entry) (lent lent′ : List ℕ) (doubles doubles′ : List Float) (sides sides′ : List ℕ) (l : length lent′ ≡ length lent) (d : length doubles′ ≡ length doubles) (s : length sides′ ≡ length sides) (E : MixedExchange (settingsFor mode (length lent) (length doubles)) p a b q es)
-    (n k : ℕ) (table : List ℕ) (reals : List Float) (pairs : List ℕ) (R : ReadsPaired mode (p ++ a ++ b ++ q) lent doubles sides (Accepted n k) table reals pairs) (r : Answer) (table′ : List ℕ) (reals′ : List Float) (pairs′ : List ℕ) (R′ : ReadsPaired mode (p ++ b ++ a ++ q) lent′ doubles′ sides′ r table′ reals′ pairs′) where
-  abbrev old : Bytes
-  old = p ++ a ++ b ++ q
-
-  abbrev new : Bytes
-  new = p ++ b ++ a ++ q
-
-  abbrev f : ℕ → ℕ
-  f = exchangeShift es p a b
-
-  X : MixedExchanged (settingsFor mode (length lent) (length doubles)) p a b q es
-  X = mixed-exchange (settingsFor mode (length lent) (length doubles)) p a b q es E
-
-  es′ : List Entry
-  es′ = X .entries
-
+-- a call on a text and one on a text that agrees with it once renumbered
+module _ (mode : Mode) (old new : Bytes) (es es′ : List Entry) (f : ℕ → ℕ) (lent lent′ : List ℕ) (doubles doubles′ : List Float) (sides sides′ : List ℕ) (l : length lent′ ≡ length lent) (d : length doubles′ ≡ length doubles) (s : length sides′ ≡ length sides)
+    (e : read (settingsFor mode (length lent) (length doubles)) old ≡ accepted es) (X : Agrees (settingsFor mode (length lent) (length doubles)) old new es es′ f)
+    (n k : ℕ) (table : List ℕ) (reals : List Float) (pairs : List ℕ) (R : ReadsPaired mode old lent doubles sides (Accepted n k) table reals pairs) (r : Answer) (table′ : List ℕ) (reals′ : List Float) (pairs′ : List ℕ) (R′ : ReadsPaired mode new lent′ doubles′ sides′ r table′ reals′ pairs′) where
   wide : enoughPairs (length lent) (length sides) ≡ true
   wide = accepted-enough mode old lent doubles sides n k table reals pairs R
 
   wide′ : enoughPairs (length lent′) (length sides′) ≡ true
   wide′ = (λ i. enoughPairs (l i) (s i)) ∙ wide
 
-  e : readInto mode old lent doubles ≡ accepted es
-  e = E .reads
-
   e′ : readInto mode new lent′ doubles′ ≡ accepted es′
-  unfolding es′
   e′ = (λ i. read (settingsFor mode (l i) (d i)) new) ∙ X .reads
 
   plain : Reads mode old lent doubles (Accepted n k) table reals
@@ -90,7 +71,6 @@ module _ (mode : Mode) (p a b q : Bytes) (es : List Entry) (lent lent′ : List 
   counts = let h = plain .numbers ∙ ap answer e in (ap (λ (z : Numbers). z .primitives) h, ap (λ (z : Numbers). z .reals) h)
 
   same-tables : SameButNumbers old new f n k table reals r table′ reals′
-  unfolding es′
   same-tables =
       let Y = X .renumbers in
       record {
@@ -107,15 +87,18 @@ module _ (mode : Mode) (p a b q : Bytes) (es : List Entry) (lent lent′ : List 
   graph′ = graph-of mode new lent′ doubles′ sides′ r table′ reals′ pairs′ R′ es′ (enough mode new lent′ doubles′ sides′ wide′ ∙ e′)
 
   same-pairs : SamePairs f n table pairs table′ pairs′
-  unfolding es′
   same-pairs = record {
     foreground = λ i h g. ap (λ (z : Graph). z .sides (f i) .foreground) graph′ ∙ ap (λ (z : Sides). z .foreground) (X .pairs i h (omega (arith, counts .0))) ∙ ap (λ (z : Graph). f (z .sides i .foreground)) (sym graph);
     background = λ i h g. ap (λ (z : Graph). z .sides (f i) .background) graph′ ∙ ap (λ (z : Sides). z .background) (X .pairs i h (omega (arith, counts .0))) ∙ ap (λ (z : Graph). f (z .sides i .background)) (sym graph);
     shown = λ i m h g u v. (λ j. shows (graph′ j) ((counts .0 ∙ sym (X .renumbers .primitives)) j) (f i) (f m)) ∙ X .shown i m h (omega (arith, counts .0)) u (omega (arith, counts .0)) ∙ (λ j. shows (sym graph j) (sym (counts .0) j) i m);
   }
 
-  same-scene : SameScene old new f n k table reals pairs r table′ reals′ pairs′
+  pub same-scene : SameScene old new f n k table reals pairs r table′ reals′ pairs′
   same-scene = record { tables = same-tables; sides = same-pairs }
 
+-- the exchanged text does
 pub reader-exchange : ReaderExchange
-reader-exchange = same-scene
+reader-exchange mode p a b q es lent lent′ doubles doubles′ sides sides′ l d s E =
+    let X = mixed-exchange (settingsFor mode (length lent) (length doubles)) p a b q es E in
+    same-scene mode (p ++ a ++ b ++ q) (p ++ b ++ a ++ q) es (X .entries) (exchangeShift es p a b) lent lent′ doubles doubles′ sides sides′ l d s (E .reads)
+    (record { reads = X .reads; renumbers = X .renumbers; pairs = X .pairs; shown = X .shown })

@@ -25,7 +25,7 @@ use Rattle.scene.specs.Statement.{Statement}
 
 -- ---- the statements of a block
 
-in-append : (lo hi : ℕ) (x y : List Entry) → inBlock lo hi (x ++ y) ≡ inBlock lo hi x ++ inBlock lo hi y
+pub in-append : (lo hi : ℕ) (x y : List Entry) → inBlock lo hi (x ++ y) ≡ inBlock lo hi x ++ inBlock lo hi y
 unfolding inBlock
 in-append lo hi [] y = refl
 in-append lo hi (e ∷ x) y = go (leb lo (e .places .start) && ltb (e .places .start) hi) (in-append lo hi x y)
@@ -34,12 +34,12 @@ in-append lo hi (e ∷ x) y = go (leb lo (e .places .start) && ltb (e .places .s
     go true h = ap {B = List Statement} (λ (z : List Statement). e .statement ∷ z) h
     go false h = h
 
-in-all : (lo hi : ℕ) (x : List Entry) → Range lo hi x → inBlock lo hi x ≡ statements x
+pub in-all : (lo hi : ℕ) (x : List Entry) → Range lo hi x → inBlock lo hi x ≡ statements x
 unfolding inBlock statements
 in-all lo hi [] h = refl
 in-all lo hi (e ∷ x) h = rw (le-leb lo (e .places .start) (h .0), le-leb (suc (e .places .start)) hi (h .1)) (ap {B = List Statement} (λ (z : List Statement). e .statement ∷ z) (in-all lo hi x (h .2)))
 
-in-before : (lo hi k n : ℕ) (x : List Entry) → n ≤ lo → Range k n x → inBlock lo hi x ≡ []
+pub in-before : (lo hi k n : ℕ) (x : List Entry) → n ≤ lo → Range k n x → inBlock lo hi x ≡ []
 unfolding inBlock
 in-before lo hi k n [] l h = refl
 in-before lo hi k n (e ∷ x) l h = rw (lt-leb lo (e .places .start) (omega (arith, h .1))) (in-before lo hi k n x l (h .2))
@@ -48,7 +48,7 @@ and-false : (b : Bool) → (b && false) ≡ false
 and-false true = refl
 and-false false = refl
 
-in-after : (lo hi k n : ℕ) (x : List Entry) → hi ≤ k → Range k n x → inBlock lo hi x ≡ []
+pub in-after : (lo hi k n : ℕ) (x : List Entry) → hi ≤ k → Range k n x → inBlock lo hi x ≡ []
 unfolding inBlock
 in-after lo hi k n [] l h = refl
 in-after lo hi k n (e ∷ x) l h = rw (lt-leb (suc (e .places .start)) hi (omega (arith, h .0)), and-false (leb lo (e .places .start))) (in-after lo hi k n x l (h .2))
@@ -65,7 +65,7 @@ cancel x y z e =
 
 -- ---- a block, read
 
-ends-append : (p a : Bytes) → EndsLine a → LineStart (p ++ a)
+pub ends-append : (p a : Bytes) → EndsLine a → LineStart (p ++ a)
 ends-append p a (x, e) = inr (p ++ x, ap {B = Bytes} (λ (z : Bytes). p ++ z) e ∙ sym (append-assoc p x newline))
 
 pub piece : (r : Settings) (p a : Bytes) (P A X : List Statement) → parse r gap idle p ≡ pass gap idle P → parse r gap idle (p ++ a) ≡ pass gap idle X → X ≡ A ++ P → parse r gap idle a ≡ pass gap idle A
@@ -76,7 +76,7 @@ piece r p a P A X e f x =
 pub join : (r : Settings) (a b : Bytes) (A B : List Statement) → parse r gap idle a ≡ pass gap idle A → parse r gap idle b ≡ pass gap idle B → parse r gap idle (a ++ b) ≡ pass gap idle (B ++ A)
 join r a b A B e f = parse-append r gap idle a b ∙ ap (λ (s : Step). chain s (λ m ph. parse r m ph b)) e ∙ ap (onTop A) f
 
-idle-parse : (r : Settings) (t : Bytes) (g : Going) → run r initial t ≡ going g → g .phase ≡ idle → gap ≡ g .scan → parse r gap idle t ≡ pass gap idle (statements (g .above))
+pub idle-parse : (r : Settings) (t : Bytes) (g : Going) → run r initial t ≡ going g → g .phase ≡ idle → gap ≡ g .scan → parse r gap idle t ≡ pass gap idle (statements (g .above))
 idle-parse r t g e p m = going-parse r t g e ∙ (λ i. pass (sym m i) (p i) (statements (g .above)))
 
 -- the text's four parts, read

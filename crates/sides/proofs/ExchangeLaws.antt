@@ -19,20 +19,23 @@ use Rattle.scene.proofs.RenumberLaws.{Renamed}
 use Rattle.scene.proofs.SwapLaws.{shift-first, shift-high, shift-low, shift-second}
 use Rattle.scene.proofs.TellsLaws.{statements-length}
 use Rattle.scene.specs.Block.{shift}
-use Rattle.scene.specs.Exchange.{exchangeShift}
-use Rattle.scene.specs.Reading.{accepted, statements}
+use Rattle.scene.specs.Exchange.{Renumbers}
+use Rattle.scene.specs.Links.{realsUsed}
+use Rattle.scene.specs.Reading.{Entry, accepted, readStatements, statements}
 use Rattle.scene.specs.Statement.{Statement}
 use Rattle.scene.specs.Types.{isMaterial}
+use Rattle.scene.specs.declared.Settings.{Settings}
 use Rattle.sides.proofs.KnownLaws.{first-known, known-first, known-stay}
 use Rattle.sides.proofs.MixedLaws.{resolved, resolves}
 use Rattle.sides.proofs.MovedLaws.{loops-stay, number-on, sides-on, some-moved, type-on, way-on}
 use Rattle.sides.proofs.SideLaws.{scene-within}
-use Rattle.sides.specs.Exchange.{MixedExchangeLaw}
+use Rattle.sides.specs.Exchange.{MixedExchangeLaw, renumberedSides}
+use Rattle.sides.specs.Read.{read}
 use Rattle.sides.specs.Sides.{sceneGraph}
 
 -- ---- shifting back
 
-shift-back : (p i j n : ℕ) → shift p j i (shift p i j n) ≡ n
+pub shift-back : (p i j n : ℕ) → shift p j i (shift p i j n) ≡ n
 shift-back p i j n = go (le-or-lt n p) (le-or-lt n (p + i)) (le-or-lt n (p + i + j))
   where
     go : (n ≤ p) ⊎ (p < n) → (n ≤ p + i) ⊎ (p + i < n) → (n ≤ p + i + j) ⊎ (p + i + j < n) → shift p j i (shift p i j n) ≡ n
@@ -73,28 +76,38 @@ module _ {f g : ℕ → ℕ} {D D′ : List Statement} (R : Renamed f D D′) (S
   unfolding shows
   shows-on = λ i. leads-on i && isMaterial (type-on R m y k i)
 
+-- ---- a renumbering of the statements, and back, is one of all that is read
+
+pub record Agrees (r : Settings) (old new : Bytes) (es es′ : List Entry) (f : ℕ → ℕ) : Type 0 where
+  pub reads : read r new ≡ accepted es′
+  pub renumbers : Renumbers r old new es es′ f
+  pub pairs : (n : ℕ) → 0 < n → n ≤ length es → sceneGraph (statements es′) .sides (f n) ≡ renumberedSides f (sceneGraph (statements es) .sides n)
+  pub shown : (n m : ℕ) → 0 < n → n ≤ length es → 0 < m → m ≤ length es → shows (sceneGraph (statements es′)) (length es′) (f n) (f m) ≡ shows (sceneGraph (statements es)) (length es) n m
+
+pub agrees : {f g : ℕ → ℕ} (r : Settings) (old new : Bytes) (es es′ : List Entry) → read r old ≡ accepted es → readStatements r new ≡ accepted es′ → realsUsed (statements es′) ≡ realsUsed (statements es)
+    → Renamed f (statements es) (statements es′) → Renamed g (statements es′) (statements es) → ((n : ℕ) → g (f n) ≡ n) → Agrees r old new es es′ f
+agrees {f} {g} r old new es es′ e e′ reals R S back =
+    let h = resolved r old es e in
+    let len = statements-length es in
+    let len′ = statements-length es′ in
+    record {
+      reads = resolves r new es′ (record {
+        reads = e′;
+        known = known-first new (statements es′) es′ (known-stay R S (first-known old (statements es) es (h .known)));
+        loopless = subst (λ (k : ℕ). lowestLoop (sceneGraph (statements es′)) k ≡ 0) len′ (loops-stay S (subst (λ (k : ℕ). lowestLoop (sceneGraph (statements es)) k ≡ 0) (sym len) (h .loopless)));
+      });
+      renumbers = renumbers r old new es es′ f (h .reads) e′ R reals;
+      pairs = λ n z l. sides-on R n z (omega (arith, len));
+      shown = λ n m z l y k.
+          (ap (λ (c : ℕ). shows (sceneGraph (statements es′)) c (f n) (f m)) (sym len′)
+          ∙ shows-on R S back n m z (omega (arith, len)) y (omega (arith, len))
+          ∙ ap (λ (c : ℕ). shows (sceneGraph (statements es)) c n m) len);
+    }
+
 -- ---- the law
 
 pub mixed-exchange : MixedExchangeLaw
 mixed-exchange r p a b q es x =
-    let old = resolved r (p ++ a ++ b ++ q) es (x .reads) in
-    let s = exchange r p a b q es (old .reads) (x .first) (x .second) (clear-first (x .independent)) (clear-second (x .independent)) in
-    let R = s .renamed in
-    let S = s .back in
-    let new = s .entries in
-    let len = statements-length es in
-    let len′ = statements-length new in
-    record {
-      entries = new;
-      reads = resolves r (p ++ b ++ a ++ q) new (record {
-        reads = s .reads;
-        known = known-first (p ++ b ++ a ++ q) (statements new) new (known-stay R S (first-known (p ++ a ++ b ++ q) (statements es) es (old .known)));
-        loopless = subst (λ (k : ℕ). lowestLoop (sceneGraph (statements new)) k ≡ 0) len′ (loops-stay S (subst (λ (k : ℕ). lowestLoop (sceneGraph (statements es)) k ≡ 0) (sym len) (old .loopless)));
-      });
-      renumbers = renumbers r (p ++ a ++ b ++ q) (p ++ b ++ a ++ q) es new _ (old .reads) (s .reads) R (s .reals);
-      pairs = λ n z h. sides-on R n z (omega (arith, len));
-      shown = λ n m z h y k.
-          (ap (λ (c : ℕ). shows (sceneGraph (statements new)) c (exchangeShift es p a b n) (exchangeShift es p a b m)) (sym len′)
-          ∙ shows-on R S (shift-back _ _ _) n m z (omega (arith, len)) y (omega (arith, len))
-          ∙ ap (λ (c : ℕ). shows (sceneGraph (statements es)) c n m) len);
-    }
+    let s = exchange r p a b q es (resolved r (p ++ a ++ b ++ q) es (x .reads) .reads) (x .first) (x .second) (clear-first (x .independent)) (clear-second (x .independent)) in
+    let k = agrees r (p ++ a ++ b ++ q) (p ++ b ++ a ++ q) es (s .entries) (x .reads) (s .reads) (s .reals) (s .renamed) (s .back) (shift-back _ _ _) in
+    record { entries = s .entries; reads = k .reads; renumbers = k .renumbers; pairs = k .pairs; shown = k .shown }

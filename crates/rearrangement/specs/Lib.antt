@@ -1,0 +1,4 @@
+-- To be believed.
+pub mod Cut
+pub mod Order
+pub mod Rearranged

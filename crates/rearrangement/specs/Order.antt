@@ -1,0 +1,39 @@
+-- Blocks in another order: "each pair where one gives a name that the other gives or refers to keeps its order".
+use mathlib.Core.Bool.{cond}
+use mathlib.Core.List.{List, [], _∷_, _++_}
+use mathlib.Core.Path.{_≡_}
+use Prim.Native.Nat.{ℕ, _+_, _≤_, _<_}
+use lib.Dec.{eqb}
+use lib.ListN.{length}
+use Rattle.rearrangement.specs.Cut.{Piece}
+use Rattle.scene.specs.Block.{Independent}
+
+-- the first of the new order stands somewhere in the old one, and so for the rest
+abbrev pub Shuffle : (old new : List Piece) → Type 0
+Shuffle old [] = old ≡ []
+Shuffle old (c ∷ new) = (xs : List Piece) × (ys : List Piece) × (old ≡ xs ++ c ∷ ys) × Shuffle (xs ++ ys) new
+
+-- c stands before each of these now: of those that it stood behind it is independent
+abbrev pub Passes : Piece → List Piece → Type 0
+Passes c [] = Unit {0}
+Passes c (b ∷ bs) = (b .number < c .number → Independent (b .said) (c .said)) × Passes c bs
+
+abbrev pub Ordered : List Piece → Type 0
+Ordered [] = Unit {0}
+Ordered (c ∷ bs) = Passes c bs × Ordered bs
+
+-- ---- "after renumbering"
+
+-- how many statements stand before the block of a number
+unfoldable pub statementsBefore : List Piece → (number : ℕ) → ℕ
+statementsBefore [] n = 0
+statementsBefore (b ∷ bs) n = cond (eqb (b .number) n) 0 (length (b .said) + statementsBefore bs n)
+
+-- the rearrangement's own renumbering: 0 stays, and statement k of a block is statement k of it still. It is a bijection
+pub record Renumbering (old new : List Piece) : Type 0 where
+  pub number : ℕ → ℕ
+  pub back : ℕ → ℕ
+  pub none : number 0 ≡ 0
+  pub each : (xs : List Piece) (b : Piece) (ys : List Piece) → old ≡ xs ++ b ∷ ys → (k : ℕ) → 0 < k → k ≤ length (b .said) → number (statementsBefore old (b .number) + k) ≡ statementsBefore new (b .number) + k
+  pub forth-back : (n : ℕ) → back (number n) ≡ n
+  pub back-forth : (n : ℕ) → number (back n) ≡ n

@@ -2,12 +2,12 @@
 use mathlib.Core.Bool.{Bool, true, false, _&&_, and-true, and-false}
 use mathlib.Core.List.{List, [], _∷_}
 use mathlib.Core.Path.{_≡_, refl, ap, sym, _∙_}
-use Prim.Native.Nat.{ℕ, zero, suc, _+_, _-_, _≤_, _<_, min}
+use Prim.Native.Nat.{ℕ, zero, suc, _-_, _≤_, _<_}
 use native.Mathlib.Omega.{arith}
 use borrow.Author.Tests.{eq-eqb, ne-eqb}
 use lib.Dec.{eqb}
 use lib.Ieee.{Float, binary64, toBits}
-use lib.ListN.{length, take, drop}
+use lib.ListN.{take, drop}
 use Rattle.bits.proofs.BitsLaws.{reals-same}
 use Rattle.bits.specs.Bits.{sameReals}
 use Rattle.keys.proofs.OrderLaws.{eqb-sym, same-sym, key-same, key-sym}

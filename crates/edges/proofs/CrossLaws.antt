@@ -1,16 +1,15 @@
 -- An edge and its reverse are crossed alike, so together they change no parity.
-use mathlib.Core.Bool.{Bool, true, false, not, cond, false≢true}
+use mathlib.Core.Bool.{Bool, true, false, cond, false≢true}
 use mathlib.Core.List.{List, [], _∷_, _++_, append-assoc}
-use mathlib.Core.Option.{Option, none, some}
+use mathlib.Core.Option.{none, some}
 use mathlib.Core.Path.{_≡_, refl, ap, sym, _∙_}
-use Prim.Native.Nat.{ℕ, _+_, _*_}
+use Prim.Native.Nat.{ℕ, _*_}
 use native.Mathlib.Omega.{arith}
 use borrow.Author.Tests.{le-ltb, ltb-true}
-use lib.Dec.{ltb}
 use lib.Ieee.{Float, nan, inf, fin, lt, below, up, down}
 use Rattle.steps.specs.declared.Vector.{Vector}
 use Rattle.edges.specs.BothWays.{BothWaysLaw, bothWays, reversed}
-use Rattle.edges.specs.Corners.{Edge, edge}
+use Rattle.edges.specs.Corners.{Edge}
 use Rattle.edges.specs.Crossing.{Crossed, between, crossed, inside, parity}
 use Rattle.edges.specs.Normal.{Axis, second}
 

@@ -2,11 +2,11 @@
 use mathlib.Core.Bool.{Bool, true, false, cond}
 use mathlib.Core.List.{List, [], _∷_, _++_, append-assoc}
 use mathlib.Core.Path.{_≡_, refl, ap, sym, _∙_, subst}
-use Prim.Native.Nat.{ℕ, _/_, zero, suc, _-_, _*_, _≤_, _<_}
+use Prim.Native.Nat.{ℕ, _/_, zero, suc, _≤_, _<_}
 use native.Mathlib.Nat.{min-le-left}
 use native.Mathlib.Omega.{arith}
 use borrow.Author.Tests.{le-leb, lt-ltb, not-true}
-use lib.ListN.{replicate, length, length-append}
+use lib.ListN.{length, length-append}
 use Rattle.laws.specs.Bytes.{Bytes, same}
 use Rattle.finish.specs.Meaning.{finishIn}
 use Rattle.sides.proofs.MixedLaws.{resolved, same-reading}
@@ -23,11 +23,11 @@ use Rattle.scene.proofs.SwapLaws.{Linked, hits-true, linked-split}
 use Rattle.scene.proofs.TellsLaws.{nth-at, split-statements, statements-length}
 use Rattle.scene.specs.Links.{gives, hits, found, head, definition, latest, modifierLink, ownBody, typeIn}
 use Rattle.scene.specs.Reading.{Reading, Entry, statements, modifierTest, accepted, readStatements}
-use Rattle.scene.specs.Record.{flat, settingsFor, Record, recordIn, recordOf, records, recordImage, nth, width}
+use Rattle.scene.specs.Record.{settingsFor, Record, recordIn, recordOf, records, recordImage, nth, width}
 use Rattle.scene.specs.declared.Mode.{Mode}
 use Rattle.scene.specs.declared.Settings.{Settings}
 use Rattle.scene.specs.Types.{isMaterial}
-use Rattle.scene.specs.Statement.{Body, primitive, alias, Statement, void}
+use Rattle.scene.specs.Statement.{Statement, void}
 
 -- ---- the walk over statements
 

@@ -1,7 +1,7 @@
 -- The test decides the ways.
-use mathlib.Core.Bool.{Bool, true, false, _&&_, _||_}
+use mathlib.Core.Bool.{Bool, true, _&&_}
 use mathlib.Core.Logic.{_⊎_, inl, inr}
-use mathlib.Core.Path.{_≡_, refl, subst}
+use mathlib.Core.Path.{_≡_, subst}
 use Prim.Native.Nat.{ℕ, zero, suc, _≤_, _<_}
 use native.Mathlib.Omega.{arith}
 use Rattle.graph.specs.Paths.{Way, one, on, via}
@@ -87,16 +87,3 @@ module _ (link : ℕ → ℕ → Bool) (pass : ℕ → Bool) where
       go : (via link pass k a b ≡ true) ⊎ ((pass (suc k) ≡ true) × (via link pass k a (suc k) ≡ true) × (via link pass k (suc k) b ≡ true)) → ((a b : ℕ) → via link pass k a b ≡ true → Way link pass a b) → Way link pass a b
       go (inl h) ih = ih a b h
       go (inr h) ih = trans (suc k) (h .0) (ih a (suc k) (h .1)) (ih (suc k) b (h .2))
-
--- links and passes that agree on 1 to n give the same test: a table's view and the statements' graph
-module _ (f g : ℕ → ℕ → Bool) (p q : ℕ → Bool) (n : ℕ) (links : (a b : ℕ) → 0 < a → a ≤ n → f a b ≡ g a b) (passes : (a : ℕ) → 0 < a → a ≤ n → p a ≡ q a) where
-  pub via-same : (k a b : ℕ) → k ≤ n → 0 < a → a ≤ n → via f p k a b ≡ via g q k a b
-  unfolding via
-  via-same zero a b h z l = links a b z l
-  via-same (suc k) a b h z l =
-      rw (
-        via-same k a b (omega arith) z l,
-        passes (suc k) (omega arith) h,
-        via-same k a (suc k) (omega arith) z l,
-        via-same k (suc k) b (omega arith) (omega arith) h,
-      )

@@ -9,7 +9,7 @@ use Rattle.steps.specs.Step.{+0}
 use Rattle.hits.specs.Ahead.{ahead}
 use Rattle.hits.specs.Larger.{LargerLaw}
 use Rattle.hits.specs.Outcome.{Outcome, hit, miss, refused}
-use Rattle.hits.specs.Shape.{Candidate, Meets, Shape, at, fails, firstAhead, hitAbove, hitOf, orElse}
+use Rattle.hits.specs.Shape.{Candidate, Meets, at, fails, firstAhead, hitAbove, hitOf, orElse}
 
 -- ---- what a miss tells
 

@@ -1,7 +1,7 @@
 -- With the least distance 0 the answers are the old ones.
 use mathlib.Core.Bool.{true, false, cond, and-true}
 use mathlib.Core.List.{List, [], _∷_}
-use mathlib.Core.Path.{_≡_, refl, ap, sym, _∙_}
+use mathlib.Core.Path.{_≡_, refl}
 use Prim.Native.Nat.{_+_, _*_}
 use native.Mathlib.Omega.{arith}
 use borrow.Author.Tests.{le-ltb}
@@ -12,8 +12,7 @@ use Rattle.steps.specs.Step.{+0}
 use Rattle.steps.specs.declared.Vector.{Vector}
 use Rattle.hits.proofs.ShapeLaws.{hit-cond, plane-within}
 use Rattle.hits.specs.Ahead.{ahead}
-use Rattle.hits.specs.FromZero.{OldAnswers, above0, centreFromZero, firstAbove0, planeFromZero, ringFromZero, solvedFromZero, sphereFromZero, within}
-use Rattle.hits.specs.Outcome.{Outcome}
+use Rattle.hits.specs.FromZero.{OldAnswers, above0, centreFromZero, firstAbove0, planeFromZero, ringFromZero, solvedFromZero, sphereFromZero}
 use Rattle.hits.specs.Plane.{inPlane, planeHit}
 use Rattle.hits.specs.Ring.{onRing, ringHit}
 use Rattle.hits.specs.Shape.{Candidate, Meets, Shape, at, fails, firstAhead, hitAbove, hitOf, orElse}

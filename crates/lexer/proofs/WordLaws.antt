@@ -1,7 +1,7 @@
 -- What is known of the word at or after a place.
 use mathlib.Core.Bool.{true, false}
-use mathlib.Core.Path.{_≡_, sym, ap, _∙_}
-use Prim.Native.Nat.{ℕ, _+_, _-_, _≤_, _<_, min}
+use mathlib.Core.Path.{_≡_, refl, sym, ap, _∙_}
+use Prim.Native.Nat.{ℕ, zero, suc, _+_, _-_, _≤_, _<_, min}
 use native.Mathlib.Omega.{arith}
 use borrow.Author.Tests.{not-true, not-false, le-leb, lt-leb}
 use lib.ListN.{length, drop, getD, length-drop}
@@ -10,7 +10,7 @@ use Rattle.laws.proofs.RunLaws.{run-length, run-passes, run-stops, past-most, p
 use Rattle.laws.specs.Bytes.{Bytes}
 use Rattle.laws.specs.Runs.{all, run, past}
 use Rattle.lexer.specs.Class.{isBlank, isOther, isGood}
-use Rattle.lexer.specs.Word.{wordAt, wordFault}
+use Rattle.lexer.specs.Word.{behindWords, wordAt, wordEnd, wordFault}
 use Rattle.lexer.specs.declared.Word.{Word}
 
 module _ (text : Bytes) (at : ℕ) where
@@ -66,3 +66,14 @@ module _ (w : Bytes) where
   pub fault-none : all isGood w ≡ true → length w ≤ 64 → wordFault w ≡ 0
   unfolding wordFault
   fault-none e h = rw (e, le-leb (length w) 64 h)
+
+-- words that are passed over: none are left, or one is passed
+pub skipped-none : (text : Bytes) (at left : ℕ) → left ≤ 0 → at ≡ behindWords text at left
+unfolding behindWords
+skipped-none text at zero h = refl
+skipped-none text at (suc n) h = absurd (omega arith)
+
+pub skipped-more : (text : Bytes) (at left : ℕ) → 0 < left → {next : ℕ} → next ≡ wordEnd text at → behindWords text next (left - 1) ≡ behindWords text at left
+unfolding behindWords
+skipped-more text at zero h e = absurd (omega arith)
+skipped-more text at (suc n) h e = let m : suc n - 1 ≡ n = omega arith in λ i. behindWords text (e i) (m i)

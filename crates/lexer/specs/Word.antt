@@ -1,6 +1,6 @@
 -- The words of a text.
 use mathlib.Core.Bool.{Bool, _||_, cond}
-use Prim.Native.Nat.{ℕ, _+_}
+use Prim.Native.Nat.{ℕ, zero, suc, _+_}
 use lib.Dec.{leb}
 use lib.ListN.{length, drop, getD}
 use Rattle.laws.specs.Bytes.{Bytes, part}
@@ -23,6 +23,11 @@ wordBytes text at = part text (wordAt text at .place) (wordAt text at .len)
 -- where that word ends: the first place behind it
 abbrev pub wordEnd : Bytes → ℕ → ℕ
 wordEnd text at = wordAt text at .place + wordAt text at .len
+
+-- the place behind so many words from a place on
+unfoldable pub behindWords : Bytes → (at count : ℕ) → ℕ
+behindWords text at zero = at
+behindWords text at (suc n) = behindWords text (wordEnd text at) n
 
 -- "2 bad byte in a word", "3 word over 64 bytes"; "at one place, the lowest number"; 0 for a good word
 unfoldable pub wordFault : Bytes → ℕ

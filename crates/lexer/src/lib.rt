@@ -7,7 +7,7 @@ ghost use lib.ListN.{length, take};
 ghost use Rattle.laws.specs.Bytes.{part, same};
 ghost use Rattle.laws.specs.Runs.{past};
 ghost use Rattle.lexer.specs.Class.{classOf, isBlank, isGood, isInLine, isOther, isRun};
-ghost use Rattle.lexer.specs.Word.{checkedAt, endsWord, wordAt, wordBytes, wordEnd, wordFault};
+ghost use Rattle.lexer.specs.Word.{behindWords, checkedAt, endsWord, wordAt, wordBytes, wordEnd, wordFault};
 
 pub const BLANK: u8 = 0;
 
@@ -378,6 +378,19 @@ pub fn past_word(text: &[u8], at: usize) -> usize
 {
     let word = next_word(text, at);
     word.place + word.len
+}
+
+// The place behind so many words.
+pub fn skip_words(text: &[u8], at: usize, count: usize) -> usize
+    ensures { λ r. ⌜ r ≡ behindWords (now (text .entry)) at count ⌝ }
+{
+    let mut place = at;
+    let mut left = count;
+    while 0 < left {
+        place = past_word(text, place);
+        left -= 1;
+    }
+    place
 }
 
 // The lesser of two lengths.

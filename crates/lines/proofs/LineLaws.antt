@@ -1,14 +1,13 @@
 -- Words one behind the other, each after a space, and the line of no words.
 use mathlib.Core.List.{List, [], _∷_, _++_, append-assoc, append-nil}
 use mathlib.Core.Path.{_≡_, refl, sym, ap, _∙_}
-use Prim.Native.Nat.{ℕ, zero, suc, _+_, _-_, _≤_, _<_}
+use Prim.Native.Nat.{ℕ, zero, suc, _-_, _≤_, _<_}
 use native.Mathlib.Omega.{arith}
 use lib.ListN.{length}
 use Rattle.buffer.specs.Decimal.{decimal}
 use Rattle.laws.specs.Bytes.{Bytes, byte, bytes}
 use Rattle.lexer.specs.Word.{wordBytes, wordEnd}
 use Rattle.scene.specs.Told.{wordsFrom}
-use Rattle.lines.specs.Arguments.{behindWords}
 use Rattle.tidying.specs.Tidy.{spaced, counted}
 
 pub no-words : (text : Bytes) (at left : ℕ) → left ≤ 0 → spaced (wordsFrom text at left) ≡ []
@@ -20,17 +19,6 @@ pub next-word : (text : Bytes) (at left : ℕ) → 0 < left → (word : Bytes) �
 unfolding spaced wordsFrom
 next-word text at zero h word d next e = absurd (omega arith)
 next-word text at (suc n) h word d next e = let m : suc n - 1 ≡ n = omega arith in λ i. byte " " ∷ (sym d i ++ spaced (wordsFrom text (sym e i) (sym m i)))
-
--- words that are passed over: none are left, or one is passed
-pub skipped-none : (text : Bytes) (at left : ℕ) → left ≤ 0 → at ≡ behindWords text at left
-unfolding behindWords
-skipped-none text at zero h = refl
-skipped-none text at (suc n) h = absurd (omega arith)
-
-pub skipped-more : (text : Bytes) (at left : ℕ) → 0 < left → {next : ℕ} → next ≡ wordEnd text at → behindWords text next (left - 1) ≡ behindWords text at left
-unfolding behindWords
-skipped-more text at zero h e = absurd (omega arith)
-skipped-more text at (suc n) h e = let m : suc n - 1 ≡ n = omega arith in λ i. behindWords text (e i) (m i)
 
 pub words-length : (text : Bytes) (at n : ℕ) → length (wordsFrom text at n) ≡ n
 unfolding wordsFrom

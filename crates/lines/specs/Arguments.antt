@@ -1,15 +1,10 @@
 -- The argument lines of a primitive, from the text that it stands in.
 use mathlib.Core.List.{List, [], _++_}
-use Prim.Native.Nat.{ℕ, zero, suc, _+_}
+use Prim.Native.Nat.{ℕ, _+_}
 use Rattle.laws.specs.Bytes.{Bytes}
-use Rattle.lexer.specs.Word.{wordEnd}
+use Rattle.lexer.specs.Word.{behindWords}
 use Rattle.scene.specs.Told.{wordsFrom}
 use Rattle.tidying.specs.Tidy.{counted}
-
--- the place behind so many words from a place on
-unfoldable pub behindWords : Bytes → (at count : ℕ) → ℕ
-behindWords text at zero = at
-behindWords text at (suc n) = behindWords text (wordEnd text at) n
 
 -- from the name on a primitive's words are: name, string count, strings, integer count, real count, numerals
 abbrev pub stringWords : Bytes → (name strings : ℕ) → List Bytes

@@ -4,7 +4,7 @@ ghost use mathlib.Core.Path.{_≡_};
 ghost use Rattle.laws.specs.Bytes.{byte};
 ghost use Rattle.scene.specs.Told.{wordsFrom};
 ghost use Rattle.tidying.specs.Tidy.{counted, spaced};
-ghost use Rattle.lines.specs.Arguments.{argumentLines, behindWords};
+ghost use Rattle.lines.specs.Arguments.{argumentLines};
 ghost use Rattle.lines.specs.Puts.{Puts};
 
 // Where the next byte goes, and whether some byte did not fit.
@@ -56,19 +56,6 @@ fn put_counted(out: &mut [u8], c: Cursor, text: &[u8], from: usize, count: usize
     put(out, behind_words, b"\n")
 }
 
-// The place behind so many words.
-pub fn skip_words(text: &[u8], at: usize, count: usize) -> usize
-    ensures { λ r. ⌜ r ≡ behindWords (now (text .entry)) at count ⌝ }
-{
-    let mut place = at;
-    let mut left = count;
-    while 0 < left {
-        place = lexer::past_word(text, place);
-        left -= 1;
-    }
-    place
-}
-
 // The three argument lines of a primitive whose name stands at a place, with so many strings and reals.
 pub fn put_arguments(
     out: &mut [u8],
@@ -82,8 +69,8 @@ pub fn put_arguments(
 {
     let string_count = strings as usize;
     let real_count = reals as usize;
-    let string = skip_words(text, name, 2);
-    let real = skip_words(text, name, 4 + string_count);
+    let string = lexer::skip_words(text, name, 2);
+    let real = lexer::skip_words(text, name, 4 + string_count);
     let behind_strings = put_counted(out, c, text, string, string_count);
     let behind_integers = put(out, behind_strings, b"0\n");
     put_counted(out, behind_integers, text, real, real_count)

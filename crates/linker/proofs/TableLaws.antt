@@ -3,11 +3,10 @@ use mathlib.Core.Bool.{Bool, true, false}
 use mathlib.Core.List.{List, [], _∷_}
 use mathlib.Core.Path.{_≡_, refl, ap, sym, _∙_}
 use Prim.Native.Nat.{ℕ, zero, suc, _+_, _-_, _*_, _/_, _≤_, _<_}
-use native.Mathlib.Numerals.{add-one}
 use native.Mathlib.Omega.{arith}
 use borrow.Author.Tests.{le-leb, lt-leb}
-use lib.ListN.{length, getD, set, take, drop}
-use lib.Seq.{paste, paste-suc, sets, sets-eq, take-length}
+use lib.ListN.{length, set}
+use lib.Seq.{sets}
 use Rattle.laws.specs.Bytes.{Bytes, part}
 use Rattle.index.specs.Searches.{sought}
 use Rattle.index.specs.declared.Found.{Found}

@@ -1,9 +1,9 @@
 -- The lowest primitive on a loop, primitive by primitive.
 use mathlib.Core.Bool.{Bool, true, false, not}
 use mathlib.Core.List.{List}
-use mathlib.Core.Logic.{_⊎_, inl, inr}
-use mathlib.Core.Path.{_≡_, refl, ap, sym, _∙_, subst}
-use Prim.Native.Nat.{ℕ, zero, suc, _+_, _-_, _<_, _≤_}
+use mathlib.Core.Logic.{inl, inr}
+use mathlib.Core.Path.{_≡_, refl, sym, _∙_, subst}
+use Prim.Native.Nat.{ℕ, _+_, _-_, _<_, _≤_}
 use native.Mathlib.Omega.{arith}
 use borrow.Author.Tests.{eqb-false, eqb-true}
 use lib.Dec.{eqb}
@@ -16,7 +16,7 @@ use Rattle.graph.specs.Graph.{Graph, goesFrom, goesOn, link, links}
 use Rattle.graph.specs.Paths.{Way, one, on}
 use Rattle.mixtures.proofs.LeadLaws.{leads-path, marked-leads, unmarked-not}
 use Rattle.mixtures.specs.Walk.{Reaches, Within}
-use Rattle.loops.specs.Found.{Finds, NoneBelow, Tells}
+use Rattle.loops.specs.Found.{NoneBelow, Tells}
 
 -- ---- one primitive
 

@@ -23,7 +23,7 @@ use Rattle.scene.proofs.RoomLaws.{fit-forth}
 use Rattle.scene.proofs.TellsLaws.{statements-length}
 use Rattle.scene.specs.HouseRules.{zeroReal}
 use Rattle.scene.specs.Reading.{Entry, Reading, accepted, readStatements, refused, statements}
-use Rattle.scene.specs.Record.{realImage, realTable, recordImage, settingsFor, width}
+use Rattle.scene.specs.Record.{realImage, recordImage, settingsFor, width}
 use Rattle.scene.specs.declared.Mode.{Mode}
 use Rattle.scene.specs.declared.Settings.{Settings}
 use Rattle.sides.proofs.SideLaws.{zero-pairs}

@@ -3,12 +3,12 @@ use mathlib.Core.Bool.{Bool, true, false}
 use mathlib.Core.List.{List, [], _∷_}
 use mathlib.Core.Logic.{_⊎_, inl, inr}
 use mathlib.Core.Path.{_≡_, refl, ap, sym, _∙_, subst}
-use Prim.Native.Nat.{ℕ, zero, suc, _+_, _-_, _<_, _≤_}
+use Prim.Native.Nat.{ℕ, zero, suc, _-_, _<_, _≤_}
 use native.Mathlib.Omega.{arith}
 use lib.ListN.{length, getD, set, replicate, length-replicate, length-set}
 use Rattle.graph.specs.Paths.{Way, one, on}
 use Rattle.graph.specs.Graph.{Graph, link, links, goesOn}
-use Rattle.mixtures.specs.Walk.{Marked, unmarked, Onward, Within, Ready, Walked, Reaches, ReachesFrom, Steps, StepsAside}
+use Rattle.mixtures.specs.Walk.{Marked, Onward, Ready, Walked, Reaches, ReachesFrom, Steps, StepsAside}
 use Rattle.mixtures.proofs.MarkLaws.{marked-here, marked-kept, marked-inv, unmarked-set, unmarked-le, unmarked-length, none-marked}
 use Rattle.graph.proofs.GraphLaws.{Among, link-of, link-inv}
 

@@ -9,9 +9,8 @@ use lib.Dec.{eqb}
 use lib.ListN.{getD, length, take}
 use Rattle.laws.proofs.BoolLaws.{and-left}
 use Rattle.laws.specs.Bytes.{Bytes, bytes, same}
-use Rattle.lexer.specs.Word.{wordBytes, wordEnd}
+use Rattle.lexer.specs.Word.{behindWords, wordBytes, wordEnd}
 use Rattle.lines.proofs.LineLaws.{words-length}
-use Rattle.lines.specs.Arguments.{behindWords}
 use Rattle.moving.specs.Moved.{glass, index, isSpelled, movedBody, movedReals}
 use Rattle.moving.specs.declared.Direction.{Direction}
 use Rattle.moving.specs.declared.Direction.the-variants.{Back, Forth}

@@ -6,8 +6,7 @@ use Prim.Native.Nat.{ℕ, zero, suc}
 use lib.Dec.{eqb}
 use lib.ListN.{length}
 use Rattle.laws.specs.Bytes.{Bytes, bytes, same}
-use Rattle.lexer.specs.Word.{wordBytes}
-use Rattle.lines.specs.Arguments.{behindWords}
+use Rattle.lexer.specs.Word.{behindWords, wordBytes}
 use Rattle.moved_text.specs.declared.Change.{Change}
 use Rattle.moved_text.specs.declared.Change.the-variants.{Added, Dropped, Kept}
 use Rattle.moving.specs.Moved.{moved}

@@ -19,7 +19,7 @@ fn is_spelled(text: &[u8], records: &[u32], n: usize) -> bool
     ensures { λ r. ⌜ r ≡ spelledAt (now (text .entry)) (now (records .entry)) n ⌝ }
 {
     let name = table::field(records, n, table::NAME) as usize;
-    let place = lines::skip_words(text, name, 7);
+    let place = lexer::skip_words(text, name, 7);
     lexer::same(lexer::word_bytes(text, place), b"1.52")
 }
 
@@ -66,7 +66,7 @@ fn put_glass(
     let behind_head = record_text::put_head(out, c, text, records, n, b"glass");
     let behind_lines = lines::put(out, behind_head, b"\n0\n0\n");
     let behind_count = lines::put(out, behind_lines, count);
-    let real = lines::skip_words(text, name, 4);
+    let real = lexer::skip_words(text, name, 4);
     let behind_words = lines::put_words(out, behind_count, text, real, 3);
     lines::put(out, behind_words, end)
 }

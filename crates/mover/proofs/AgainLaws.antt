@@ -5,13 +5,12 @@ use mathlib.Core.Logic.{_⊎_, inl, inr}
 use mathlib.Core.Path.{_≡_, refl, ap, sym, _∙_, subst}
 use Prim.Native.Nat.{ℕ, _≤_, _<_, min}
 use borrow.Author.Tests.{le-leb, lt-leb}
-use lib.Dec.{eqb, leb}
+use lib.Dec.{leb}
 use lib.ListN.{length}
-use Rattle.fresh.specs.Fresh.{tablesMatch}
 use Rattle.laws.proofs.NatLaws.{le-or-lt}
 use Rattle.laws.specs.Bytes.{Bytes}
 use Rattle.mover.specs.Again.{MovesAsReadLaw, movedFrom, readMoved}
-use Rattle.mover.specs.Answer.{movedOutcome, movedRefusal, outcomeOf}
+use Rattle.mover.specs.Answer.{movedOutcome, movedRefusal, outcomeFor}
 use Rattle.moving.proofs.ReadBackLaws.{reads-moved}
 use Rattle.moving.specs.Moved.{moved}
 use Rattle.moving.specs.ReadBack.{ReadsMoved}
@@ -19,20 +18,16 @@ use Rattle.moving.specs.declared.Direction.{Direction}
 use Rattle.scene.specs.Links.{realsUsed}
 use Rattle.scene.specs.Reading as reading
 use Rattle.scene.specs.Reading.{Entry, Reading, accepted, statements}
-use Rattle.scene.specs.Record.{realImage, recordImage, settingsFor}
+use Rattle.scene.specs.Record.{realImage, settingsFor}
 use Rattle.scene.specs.Statement.{Statement}
 use Rattle.scene.specs.declared.Mode.{Mode}
-use Rattle.sides.proofs.FitLaws.{numbers-kept, reals-kept}
+use Rattle.sides.proofs.FitLaws.{reals-kept}
 use Rattle.sides.specs.Read.{read}
 use Rattle.tidying.specs.Tidy.{tidy}
-use Rattle.writer.proofs.AgainLaws.{own-match}
+use Rattle.writer.proofs.AgainLaws.{own-checked}
 use Rattle.writer.specs.Answer.{Outcome, fitted, refused, written}
 
 -- ---- the outcome, by the two tests
-
--- of a reason, 0 for none
-abbrev outcomeFor : ℕ → Bytes → Outcome
-outcomeFor n t = cond (eqb n 0) (written t) (refused n 0)
 
 fits-as : (t : Bytes) (b : Bool) → outcomeFor (cond b 0 23) t ≡ cond b (written t) (refused 23 0)
 fits-as t true = refl
@@ -50,13 +45,8 @@ module _ (limit room : ℕ) (D : List Statement) where
 
 own-moved : (mode : Mode) (m : Direction) (text : Bytes) (n k room : ℕ) (es : List Entry) → read (settingsFor mode n k) text ≡ accepted es → movedFrom mode m text n k room ≡ movedOutcome (min 4096 k) room (moved m (statements es))
 own-moved mode m text n k room es e =
-    let x = read (settingsFor mode n k) text in
-    let a = numbers-kept mode n k text in
-    let b = reals-kept mode n k text in
-    let D = moved m (statements es) in
-    ap (outcomeOf m text (recordImage text n x) (realImage k x) room) ((λ i. read (settingsFor mode (a i) (b i)) text) ∙ e)
-    ∙ (λ i. cond (tablesMatch text (recordImage text n (e i)) (realImage k (e i)) (accepted es)) (movedOutcome (min 4096 (b i)) room D) (refused 22 0))
-    ∙ ap (λ (t : Bool). cond t (movedOutcome (min 4096 k) room D) (refused 22 0)) (own-match text n k (accepted es) (ap (λ (y : Reading). length (recordImage text n y)) (sym e) ∙ a) (ap (λ (y : Reading). length (realImage k y)) (sym e) ∙ b))
+    own-checked (λ D. movedOutcome (min 4096 (length (realImage k (read (settingsFor mode n k) text)))) room (moved m D)) mode text n k es e
+    ∙ ap (λ (l : ℕ). movedOutcome (min 4096 l) room (moved m (statements es))) (reals-kept mode n k text)
 
 -- ---- the three ends of a reading
 

@@ -1,20 +1,17 @@
 -- The call's answer and output, from what its parts give.
 use mathlib.Core.Bool.{Bool, true, false, cond, not}
 use mathlib.Core.List.{List, [], _++_}
-use mathlib.Core.Path.{_≡_, refl, sym, ap, subst, _∙_}
+use mathlib.Core.Path.{_≡_, refl, sym, ap, _∙_}
 use Prim.Native.Nat.{ℕ, _-_, _≤_, min}
 use native.Mathlib.Omega.{arith}
 use borrow.Author.Tests.{eq-eqb, ltb-false, ne-eqb}
-use lib.Dec.{eqb, leb, ltb}
+use lib.Dec.{leb, ltb}
 use lib.Ieee.{Float}
 use lib.ListN.{length, replicate, take}
-use Rattle.bits.specs.Bits.{sameReals}
 use Rattle.buffer.proofs.PutLaws.{front, length-put}
 use Rattle.buffer.specs.Put.{behind, put}
-use Rattle.fresh.specs.Fresh.{freshOf, tablesMatch}
+use Rattle.fresh.specs.Fresh.{freshOf}
 use Rattle.fresh.specs.declared.Fresh.the-variants as fresh
-use Rattle.laws.proofs.BoolLaws.{and-left}
-use Rattle.laws.proofs.BytesLaws.{same-eq}
 use Rattle.laws.specs.Bytes.{Bytes, part}
 use Rattle.lines.specs.Puts.{Puts}
 use Rattle.lines.specs.declared.Cursor.{Cursor}
@@ -24,20 +21,19 @@ use Rattle.moving.specs.Moved.{moved}
 use Rattle.moving.specs.declared.Direction.{Direction}
 use Rattle.reader.specs.Answer.{readInto}
 use Rattle.scene.specs.Links.{realsUsed}
-use Rattle.scene.specs.Reading as reading
-use Rattle.scene.specs.Reading.{Entry, Reading, accepted, readStatements, statements}
-use Rattle.scene.specs.Record.{filled, realImage, recordImage, settingsFor}
+use Rattle.scene.specs.Reading.{Entry, accepted, readStatements, statements}
+use Rattle.scene.specs.Record.{filled, recordImage, settingsFor}
 use Rattle.scene.specs.Statement.{Statement}
 use Rattle.scene.specs.declared.Mode.{Mode}
 use Rattle.scene.specs.declared.Settings.{Settings}
-use Rattle.sides.proofs.MixedLaws.{resolved}
 use Rattle.tidying.specs.Tidy.{tidy}
-use Rattle.writer.specs.Answer.{Outcome, answered, output, refused, written}
+use Rattle.writer.proofs.AnswerLaws.{refused-as, same-as}
+use Rattle.writer.specs.Answer.{Outcome, answered, checked, output, refused, written}
 use Rattle.writer.specs.declared.Answer.{Answer}
 use Rattle.writer.specs.declared.Answer.the-variants as call
 use Rattle.mover.proofs.RealsLaws.{reals-counted}
 use Rattle.mover.proofs.RefusalLaws.{above, capped-fits, not-refused}
-use Rattle.mover.specs.Answer.{Moves, movedOutcome, movedRefusal, outcomeOf}
+use Rattle.mover.specs.Answer.{Moves, movedOutcome, movedRefusal, outcomeFor}
 use Rattle.mover.specs.Code.{WritesMoved, realsTo}
 
 -- ---- what was put from the front of a space on that holds as much as a reading takes
@@ -82,10 +78,6 @@ cleared-behind out t len e h =
 
 -- ---- the records of a text moved
 
--- the outcome of a reason
-abbrev outcomeFor : ℕ → Bytes → Outcome
-outcomeFor n t = cond (eqb n 0) (written t) (refused n 0)
-
 outcome-refused : (n : ℕ) (t : Bytes) → (n ≡ 0 → ⊥) → outcomeFor n t ≡ refused n 0
 outcome-refused n t h = ap (λ (b : Bool). cond b (written t) (refused n 0)) (ne-eqb n 0 h)
 
@@ -126,45 +118,20 @@ module _ {made : Bytes} {r : Cursor} {reals reason : ℕ} (m : Direction) (text 
 
 -- ---- the call
 
-module _ (m : Direction) (text : Bytes) (table : List ℕ) (doubles : List Float) (size : ℕ) where
-  refused-as : (x : Reading) (n p : ℕ) → fresh.Refused n p ≡ freshOf text table doubles x → outcomeOf m text table doubles size x ≡ refused n p
-  refused-as (reading.refused i q) n p e =
-      let a : i ≡ n = cc in
-      let b : q ≡ p = cc in
-      λ i. refused (a i) (b i)
-  refused-as (accepted es) n p e = go (tablesMatch text table doubles (accepted es)) e
-    where
-      go : (t : Bool) → fresh.Refused n p ≡ cond t (fresh.Same (length es)) (fresh.Refused 22 0) → cond t (movedOutcome (min 4096 (length doubles)) size (moved m (statements es))) (refused 22 0) ≡ refused n p
-      go true h = let z : _≡_ {A = ℕ} 0 1 = cc in absurd (omega arith)
-      go false h =
-          let a : 22 ≡ n = cc in
-          let b : 0 ≡ p = cc in
-          λ i. refused (a i) (b i)
-
 module _ (mode : Mode) (m : Direction) (text : Bytes) (table : List ℕ) (doubles : List Float) (out : Bytes) where
+  abbrev made : List Statement → Outcome
+  made D = movedOutcome (min 4096 (length doubles)) (length out) (moved m D)
+
   pub moves-refused : {out′ : Bytes} (n p : ℕ) → fresh.Refused n p ≡ freshOf text table doubles (readInto mode text table doubles) → out′ ≡ filled 0 (length out) [] → Moves mode m text table doubles out (call.Refused n p) out′
   moves-refused n p e z =
-      let o = refused-as m text table doubles (length out) (readInto mode text table doubles) n p e in
+      let o = refused-as made text table doubles (readInto mode text table doubles) n p e in
       record { says = ap answered (sym o); output = z ∙ ap (output (length out)) (sym o) }
 
-  module _ {r : Answer} {out′ : Bytes} (room n : ℕ) (least : room ≡ min 4096 (length doubles)) (w : WritesMoved m text table room n out r out′) where
-    -- the answer and the output that an outcome asks for
-    abbrev As : Outcome → Type 0
-    As o = (r ≡ answered o) × (out′ ≡ output (length out) o)
-
-    -- tables that match are those that the records moved are put from
-    same-as : (x : Reading) → readInto mode text table doubles ≡ x → fresh.Same n ≡ freshOf text table doubles x → As (outcomeOf m text table doubles (length out) x)
-    unfolding tablesMatch
-    same-as (reading.refused i q) d e = let z : _≡_ {A = ℕ} 0 1 = cc in absurd (omega arith)
-    same-as (accepted es) d e = go (tablesMatch text table doubles (accepted es)) refl e
-      where
-        go : (t : Bool) → tablesMatch text table doubles (accepted es) ≡ t → fresh.Same n ≡ cond t (fresh.Same (length es)) (fresh.Refused 22 0) → As (cond t (movedOutcome (min 4096 (length doubles)) (length out) (moved m (statements es))) (refused 22 0))
-        go false f h = let z : _≡_ {A = ℕ} 0 1 = cc in absurd (omega arith)
-        go true f h =
-            let s = settingsFor mode (length table) (length doubles) in
-            let a : n ≡ length es = cc in
-            let t = same-eq table (recordImage text (length table) (accepted es)) (and-left _ (sameReals doubles (realImage (length doubles) (accepted es))) f) in
-            subst (λ (k : ℕ). As (movedOutcome k (length out) (moved m (statements es)))) least (w s es (length table) (resolved s text es d .reads) t a (omega arith))
-
-    pub moves-same : fresh.Same n ≡ freshOf text table doubles (readInto mode text table doubles) → Moves mode m text table doubles out r out′
-    moves-same e = let h = same-as (readInto mode text table doubles) refl e in record { says = h .0; output = h .1 }
+  -- tables that match are those that the records moved are put from
+  pub moves-same : {r : Answer} {out′ : Bytes} (room n : ℕ) → room ≡ min 4096 (length doubles) → WritesMoved m text table room n out r out′ → fresh.Same n ≡ freshOf text table doubles (readInto mode text table doubles) → Moves mode m text table doubles out r out′
+  moves-same room n least w e =
+      let R = settingsFor mode (length table) (length doubles) in
+      let x = same-as made text table doubles R (readInto mode text table doubles) n refl e in
+      let h = w R (x .entries) (length table) (x .reads) (x .own) (x .count) (omega arith) in
+      let o : movedOutcome room (length out) (moved m (statements (x .entries))) ≡ checked made text table doubles (readInto mode text table doubles) = ap (λ (k : ℕ). movedOutcome k (length out) (moved m (statements (x .entries)))) least ∙ sym (x .outcome) in
+      record { says = h .0 ∙ ap answered o; output = h .1 ∙ ap (output (length out)) o }

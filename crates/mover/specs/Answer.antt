@@ -6,19 +6,16 @@ use Prim.Native.Nat.{ℕ, min}
 use lib.Dec.{eqb, leb}
 use lib.Ieee.{Float}
 use lib.ListN.{length}
-use Rattle.fresh.specs.Fresh.{tablesMatch}
 use Rattle.laws.specs.Bytes.{Bytes}
 use Rattle.moving.specs.Moved.{moved}
 use Rattle.moving.specs.declared.Direction.{Direction}
 use Rattle.reader.specs.Answer.{readInto}
 use Rattle.scene.specs.Links.{realsUsed}
-use Rattle.scene.specs.Reading as reading
-use Rattle.scene.specs.Reading.{Reading, accepted, statements}
 use Rattle.scene.specs.Statement.{Statement}
 use Rattle.scene.specs.declared.Mode.{Mode}
 use Rattle.tidying.specs.Tidy.{tidy}
 use Rattle.writer.specs.Answer as written
-use Rattle.writer.specs.Answer.{Outcome, answered}
+use Rattle.writer.specs.Answer.{Outcome, answered, checked}
 use Rattle.writer.specs.declared.Answer.{Answer}
 
 -- "what a reading of the moved scene at the same sizes would give, 1 or 13, at place 0; then 23": whether the text is too long for a
@@ -26,21 +23,18 @@ use Rattle.writer.specs.declared.Answer.{Answer}
 unfoldable pub movedRefusal : (long : Bool) (reals room len output : ℕ) → ℕ
 movedRefusal long reals room len output = cond long 1 (cond (leb reals room) (cond (leb len output) 0 23) 13)
 
+-- a text, or the refusal of a reason other than 0
+abbrev pub outcomeFor : (reason : ℕ) → Bytes → Outcome
+outcomeFor n t = cond (eqb n 0) (written.written t) (written.refused n 0)
+
 -- the moved text of statements, at so much room for reals and in an output of so many bytes
 abbrev pub movedOutcome : (limit output : ℕ) → List Statement → Outcome
-movedOutcome limit output D =
-    let n = movedRefusal (not (leb (length (tidy D)) 65536)) (realsUsed D) limit (length (tidy D)) output in
-    cond (eqb n 0) (written.written (tidy D)) (written.refused n 0)
+movedOutcome limit output D = outcomeFor (movedRefusal (not (leb (length (tidy D)) 65536)) (realsUsed D) limit (length (tidy D)) output) (tidy D)
 
--- "Refusals for moving, after the writer's 22"
-abbrev pub outcomeOf : Direction → Bytes → (records : List ℕ) → (reals : List Float) → (output : ℕ) → Reading → Outcome
-outcomeOf m text records reals output (reading.refused n p) = written.refused n p
-outcomeOf m text records reals output (accepted es) =
-    cond (tablesMatch text records reals (accepted es)) (movedOutcome (min 4096 (length reals)) output (moved m (statements es))) (written.refused 22 0)
-
--- what a call comes to, in a mode and a direction, of a text, two lent tables and an output of so many bytes
+-- what a call comes to, in a mode and a direction, of a text, two lent tables and an output of so many bytes. "Refusals for moving, after
+-- the writer's 22"
 abbrev pub movedBy : Mode → Direction → Bytes → (records : List ℕ) → (reals : List Float) → (output : ℕ) → Outcome
-movedBy mode m text records reals output = outcomeOf m text records reals output (readInto mode text records reals)
+movedBy mode m text records reals output = checked (λ D. movedOutcome (min 4096 (length reals)) output (moved m D)) text records reals (readInto mode text records reals)
 
 -- one call: the answer, and the output at exit
 pub record Moves (mode : Mode) (m : Direction) (text : Bytes) (records : List ℕ) (reals : List Float) (out : Bytes) (r : Answer) (out′ : Bytes) : Type 0 where

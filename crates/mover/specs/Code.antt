@@ -1,5 +1,5 @@
 -- The reals of moved records as the code counts them, and what is written of records that are those of a text.
-use mathlib.Core.Bool.{cond, not}
+use mathlib.Core.Bool.{cond}
 use mathlib.Core.List.{List}
 use mathlib.Core.Path.{_≡_}
 use Prim.Native.Nat.{ℕ, zero, suc, _+_, min}

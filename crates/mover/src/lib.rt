@@ -6,7 +6,6 @@ use scene::Mode;
 use table::MOST_BYTES;
 use writer::Answer;
 ghost use mathlib.Core.Path.{_≡_};
-ghost use lib.ListN.{length};
 ghost use Rattle.mover.specs.Answer.{Moves, movedRefusal};
 ghost use Rattle.mover.specs.Code.{WritesMoved, realsIn, realsTo};
 

@@ -1,21 +1,20 @@
 -- Less room for reals changes nothing but that a text may be refused with 13.
 use mathlib.Core.Bool.{Bool, true, false, cond}
-use mathlib.Core.List.{List, [], _∷_, _++_}
+use mathlib.Core.List.{List}
 use mathlib.Core.Logic.{_⊎_, inl, inr}
 use mathlib.Core.Option.{Option, none, some}
-use mathlib.Core.Path.{_≡_, refl, ap, sym, _∙_, subst}
+use mathlib.Core.Path.{_≡_, refl, ap, sym, subst}
 use Prim.Native.Nat.{ℕ, zero, suc, _+_, _≤_}
 use native.Mathlib.Omega.{arith}
 use borrow.Author.Tests.{le-leb, leb-true}
 use lib.Dec.{leb}
-use lib.ListN.{length}
 use Rattle.laws.specs.Bytes.{Bytes}
 use Rattle.lexer.specs.Word.{wordFault}
 use Rattle.numeral.specs.Count.{countOf}
-use Rattle.scene.proofs.EdgeLaws.{run-stopped}
+use Rattle.scene.proofs.AlikeLaws.{Alike, read-alike}
 use Rattle.scene.specs.Links.{realsUsed}
 use Rattle.scene.specs.Phase.{Outcome, Part, Phase, Turn, atAliasName, atIntegerCount, atName, atReal, atRealCount, atString, atStringCount, atTarget, atType, busy, done, idle, into, outcome, refuse, turn, unlessFault, word}
-use Rattle.scene.specs.Reading.{Going, Move, State, advance, command, ended, feed, finish, first, going, initial, keep, move, newline, partTest, readStatements, refused, roomTest, run, settle, statements, stopped, test}
+use Rattle.scene.specs.Reading.{Going, advance, ended, partTest, readStatements, refused, roomTest, settle, statements, test}
 use Rattle.scene.specs.Statement.{Statement}
 use Rattle.scene.specs.declared.Settings.{Settings}
 
@@ -74,47 +73,21 @@ module _ (r : Settings) (n : ℕ) (more : r .reals ≤ n) where
 
   -- ---- a text
 
-  -- two states: the same, or the first is stopped with 13
-  abbrev Alike : State → State → Type 0
-  Alike X Y = (X ≡ Y) ⊎ ((p : ℕ) × (X ≡ stopped 13 p))
-
   -- a word with a fault of its own is refused for that
-  stopped-alike : (g : Going) (o : Outcome) (t : ℕ) → Alike (settle g o 13) (settle g o t)
+  stopped-alike : (g : Going) (o : Outcome) (t : ℕ) → Alike 13 (settle g o 13) (settle g o t)
   stopped-alike g (refuse c) t = inl refl
   stopped-alike g (into ph) t = inr (g .places .word, refl)
   stopped-alike g (done s) t = inr (g .places .word, refl)
 
-  settle-alike : (g : Going) (o : Outcome) (x y : ℕ) → Tests x y → Alike (settle g o x) (settle g o y)
+  settle-alike : (g : Going) (o : Outcome) (x y : ℕ) → Tests x y → Alike 13 (settle g o x) (settle g o y)
   settle-alike g o x y (inl e) = inl (ap (settle g o) e)
-  settle-alike g o x y (inr e) = subst (λ (t : ℕ). Alike (settle g o t) (settle g o y)) (sym e) (stopped-alike g o y)
+  settle-alike g o x y (inr e) = subst (λ (t : ℕ). Alike 13 (settle g o t) (settle g o y)) (sym e) (stopped-alike g o y)
 
-  advance-alike : (g : Going) (mv : Move) → Alike (advance r g mv) (advance wide g mv)
-  advance-alike g (keep m) = inl refl
-  advance-alike g (first b) = inl refl
-  advance-alike g command = inl refl
-  advance-alike g (ended w) =
+  words-alike : (g : Going) (w : Bytes) → Alike 13 (advance r g (ended w)) (advance wide g (ended w))
+  words-alike g w =
       let d = statements (g .above) in
-      subst (λ (o : Outcome). Alike (settle g (word r (g .phase) w) (test r d (g .phase) w)) (settle g o (test wide d (g .phase) w))) (word-same (g .phase) w)
+      subst (λ (o : Outcome). Alike 13 (settle g (word r (g .phase) w) (test r d (g .phase) w)) (settle g o (test wide d (g .phase) w))) (word-same (g .phase) w)
       (settle-alike g (word r (g .phase) w) (test r d (g .phase) w) (test wide d (g .phase) w) (tests d (g .phase) w))
 
-  feed-alike : (X : State) (b : ℕ) → Alike (feed r X b) (feed wide X b)
-  feed-alike (stopped c p) b = inl refl
-  feed-alike (going g) b = advance-alike g (move (g .scan) (g .phase) b)
-
-  run-alike : (t : Bytes) (X : State) → Alike (run r X t) (run wide X t)
-  unfolding run
-  run-alike [] X = inl refl
-  run-alike (b ∷ t) X = go (feed-alike X b) (run-alike t (feed wide X b))
-    where
-      go : Alike (feed r X b) (feed wide X b) → Alike (run r (feed wide X b) t) (run wide (feed wide X b) t) → Alike (run r (feed r X b) t) (run wide (feed wide X b) t)
-      go (inl e) h = subst (λ (Y : State). Alike (run r Y t) (run wide (feed wide X b) t)) (sym e) h
-      go (inr (p, e)) h = inr (p, ap (λ (Y : State). run r Y t) e ∙ run-stopped r 13 p t)
-
   pub only-room : (text : Bytes) → (readStatements r text ≡ readStatements wide text) ⊎ ((p : ℕ) × (readStatements r text ≡ refused 13 p))
-  unfolding readStatements
-  only-room text = go (leb (length text) 65536) (run-alike (text ++ newline) initial)
-    where
-      go : (b : Bool) {X Y : State} → Alike X Y → (cond b (finish (length text) X) (refused 1 0) ≡ cond b (finish (length text) Y) (refused 1 0)) ⊎ ((p : ℕ) × (cond b (finish (length text) X) (refused 1 0) ≡ refused 13 p))
-      go true (inl e) = inl (ap (finish (length text)) e)
-      go true (inr (p, e)) = inr (p, ap (finish (length text)) e)
-      go false h = inl refl
+  only-room = read-alike r wide 13 words-alike

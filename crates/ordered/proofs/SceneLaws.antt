@@ -26,9 +26,9 @@ use Rattle.ranks.proofs.RankLaws.{entry-length, ranks-nth}
 use Rattle.ranks.specs.Rank.{entryOf, rankBehind, withEntry, ranksFrom, ranksOf, withRanks, orderTable}
 use Rattle.scene.specs.Record.{filled, nameIn, recordIn, width}
 use Rattle.scene.specs.Told.{Told, tells}
-use Rattle.sort.proofs.MergeLaws.{has-first, has-later}
-use Rattle.sort.proofs.SortLaws.{names-sorted, sorted-length}
-use Rattle.sort.specs.Sort.{Rising, Sorted, earlier, has, room, sorted}
+use Rattle.name_order.proofs.MergeLaws.{has-first, has-later}
+use Rattle.name_order.proofs.SortLaws.{names-sorted, sorted-length}
+use Rattle.name_order.specs.Sort.{Rising, Sorted, earlier, has, room, sorted}
 use Rattle.ordered.proofs.TurnLaws.{neither}
 use Rattle.ordered.specs.Compared.{InOrder, countOf}
 use Rattle.ordered.specs.Lines.{Scene, numbersOf, keyBy, contentBy}

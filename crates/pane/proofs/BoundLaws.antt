@@ -12,9 +12,8 @@ use lib.Ieee.Positive.{le→cross}
 use lib.Ieee.Scale.{finite}
 use lib.IntN.{ℤ, pos}
 use Rattle.steps.specs.Step.{step, +0, +1}
-use Rattle.steps.proofs.DoubleLaws.{round-zero}
-use Rattle.steps.proofs.SignLaws.{NonNeg, abs}
-use Rattle.steps.proofs.SizeLaws.{Within, abs-round, round-one, round-within}
+use Rattle.steps.proofs.SignLaws.{NonNeg, nonneg-round}
+use Rattle.steps.proofs.SizeLaws.{Within, round-one, round-within}
 use Rattle.steps.proofs.StepLaws.{step-finite, mul-finite}
 use Rattle.pane.specs.Factors.{two}
 
@@ -64,16 +63,6 @@ bounded-twice x p h = twice x (p (mul-finite binary64 two x h .1))
 
 -- ---- signs
 
--- a rounding without a sign, or of nothing
-nonneg-round : (s : Bool) (a c : ℕ) → 0 < c → (T s → a ≡ 0) → NonNeg (round binary64 s a c)
-nonneg-round false a c C h = subst NonNeg (abs-round binary64 false a c) (go (round binary64 false a c))
-  where
-    go : (x : Float) → NonNeg (abs x)
-    go nan = tt
-    go (inf s) = tt
-    go (fin s m e) = tt
-nonneg-round true a c C h = subst (λ (n : ℕ). NonNeg (round binary64 true n c)) (sym (h tt)) (subst NonNeg (sym (round-zero binary64 true c C)) refl)
-
 -- one of two
 either : (b : Bool) (x y : Float) → NonNeg x → NonNeg y → NonNeg (cond b x y)
 either true x y p q = p
@@ -106,7 +95,7 @@ nonneg-div (fin s m e) (fin t zero d) p q = either (eqb m 0) nan (inf (unlike s 
 nonneg-div (fin s m e) (fin true (suc n) d) p q = absurd (suc-ne-zero n q)
 nonneg-div (fin s m e) (fin false (suc n) d) p q =
     either (eqb (suc n) 0) (cond (eqb m 0) nan (inf (unlike s false))) (round binary64 (unlike s false) (m * up e * down d) (suc n * up d * down e)) (either (eqb m 0) nan (inf (unlike s false)) tt tt)
-    (nonneg-round (unlike s false) (m * up e * down d) (suc n * up d * down e) (mul-pos (mul-pos (zero-lt-suc n) (up-pos d)) (down-pos e)) (λ u. signless s m e (down d) p (own s u)))
+    (nonneg-round binary64 (unlike s false) (m * up e * down d) (suc n * up d * down e) (mul-pos (mul-pos (zero-lt-suc n) (up-pos d)) (down-pos e)) (λ u. signless s m e (down d) p (own s u)))
   where
     own : (s : Bool) → T (unlike s false) → T s
     own true u = tt
@@ -115,14 +104,14 @@ nonneg-div (fin s m e) (fin false (suc n) d) p q =
 -- ±a / c + ±b / c, where b takes no more away than a
 nonneg-sum : (s : Bool) (a : ℕ) (t : Bool) (b c : ℕ) → 0 < c → (T s → a ≡ 0) → (T t → b ≤ a) → NonNeg (sum binary64 s a t b c)
 unfolding sum
-nonneg-sum false a false b c C h k = nonneg-round false (a + b) c C (λ u. absurd u)
-nonneg-sum true a true b c C h k = nonneg-round true (a + b) c C (λ u. let z = h tt in let l = k tt in omega arith)
+nonneg-sum false a false b c C h k = nonneg-round binary64 false (a + b) c C (λ u. absurd u)
+nonneg-sum true a true b c C h k = nonneg-round binary64 true (a + b) c C (λ u. let z = h tt in let l = k tt in omega arith)
 nonneg-sum true a false b c C h k =
-    either (ltb a b) (round binary64 false (b - a) c) (round binary64 (ltb b a) (a - b) c) (nonneg-round false (b - a) c C (λ u. absurd u))
-    (nonneg-round (ltb b a) (a - b) c C (λ u. let z = h tt in omega arith))
+    either (ltb a b) (round binary64 false (b - a) c) (round binary64 (ltb b a) (a - b) c) (nonneg-round binary64 false (b - a) c C (λ u. absurd u))
+    (nonneg-round binary64 (ltb b a) (a - b) c C (λ u. let z = h tt in omega arith))
 nonneg-sum false a true b c C h k =
-    either (ltb a b) (round binary64 true (b - a) c) (round binary64 false (a - b) c) (nonneg-round true (b - a) c C (λ u. let l = k tt in omega arith))
-    (nonneg-round false (a - b) c C (λ u. absurd u))
+    either (ltb a b) (round binary64 true (b - a) c) (round binary64 false (a - b) c) (nonneg-round binary64 true (b - a) c C (λ u. let l = k tt in omega arith))
+    (nonneg-round binary64 false (a - b) c C (λ u. absurd u))
 
 -- a sum
 pub nonneg-add : (x y : Float) → NonNeg x → NonNeg y → NonNeg (add binary64 x y)

@@ -1,5 +1,5 @@
 -- The parts of a plain statement up to its reals: where its words lead, one law for each function.
-use mathlib.Core.Bool.{Bool, true, false, cond, not, _||_, false≢true}
+use mathlib.Core.Bool.{Bool, true, false, cond, not, _||_}
 use mathlib.Core.List.{List, [], _∷_}
 use mathlib.Core.Option.{some}
 use mathlib.Core.Path.{_≡_, refl, ap, sym, _∙_, subst}
@@ -9,14 +9,14 @@ use borrow.Author.Tests.{eqb-false, ne-eqb, not-true}
 use lib.Dec.{eqb}
 use lib.Ieee.{Float}
 use lib.ListN.{getD, length}
-use Rattle.context.specs.Seen.{draftIn, isLookedUp, lookedFor}
-use Rattle.index.specs.Lent.{countOpen, counted, tally}
+use Rattle.context.specs.Seen.{draftIn, isLookedUp}
+use Rattle.index.specs.Lent.{tally}
 use Rattle.index.specs.Searches.{sought}
 use Rattle.index.specs.declared.Found.{Found}
 use Rattle.laws.proofs.BoolLaws.{or-false-left, or-false-right}
 use Rattle.laws.specs.Bytes.{Bytes, bytes, part, same}
 use Rattle.lexer.specs.Word.{wordAt, wordBytes}
-use Rattle.plain.proofs.StepLaws.{alias-name-step, alias-step, integers-step, kind-step, modifier-step, name-step, named-draft, reals-step, strings-step, target-draft, target-step, with-reals}
+use Rattle.plain.proofs.StepLaws.{alias-name-step, alias-step, integers-step, kind-step, modifier-step, name-step, named-draft, reals-step, strings-step, target-step, with-reals}
 use Rattle.plain.specs.Plain.{Begins, Counting, Leads, Left, Links, Names, Opens, aliasAt, idleAt, primitiveAt, stateAt}
 use Rattle.plain.specs.declared.Between.{Between}
 use Rattle.plain.specs.declared.Counts.{Counts}
@@ -31,8 +31,8 @@ use Rattle.scene.specs.Record.{lineAt}
 use Rattle.scene.specs.Statement.{Statement, void}
 use Rattle.scene.specs.Types.{isRetired, realsAllowed, stringsAllowed, typeNumber}
 use Rattle.scene.specs.declared.Settings.{Settings}
-use Rattle.statement.specs.Heads.{goingTo, linkTo, withKind, withName}
-use Rattle.statement.specs.States.{between, clipped, isIdle, opened, openingOf}
+use Rattle.statement.specs.Heads.{goingTo, linkTo, withKind}
+use Rattle.statement.specs.States.{clipped, isIdle, opened, openingOf}
 use Rattle.statement.specs.declared.Draft.{Draft}
 use Rattle.statement.specs.declared.State.{State}
 use Rattle.statement.specs.declared.Opening.the-variants as opening
@@ -104,11 +104,8 @@ names text at w f p e h g =
     let P = f g in
     record { word = P; other = ap (λ (z : Bytes). same z void) (sym (p ∙ (λ i. part text (P .place-is i) (P .len-is i)))) ∙ sym e ∙ h }
 
--- a name's place and length in a draft
+-- where a name stands
 module _ (text : Bytes) (at : ℕ) (n : Passed) (P : PassesWord text at n) where
-  name-draft : (place size : ℕ) → place ≡ clipped (n .place) → size ≡ clipped (n .len) → (d : Draft) → withName d (clipped (wordAt text at .place)) (clipped (wordAt text at .len)) ≡ withName d place size
-  name-draft place size p s d = sym (λ i. withName d ((p ∙ ap clipped (P .place-is)) i) ((s ∙ ap clipped (P .len-is)) i))
-
   name-there : (at ≤ n .place) × (n .place ≤ length text)
   name-there = let o = passed-on text at (n .next) (n .lines) (P .passes) in (omega (arith, o .2, P .place-is), omega (arith, o .3, P .place-is))
 

@@ -1,8 +1,8 @@
 -- The reals of a plain statement: what one of them does, and a row of them.
 use mathlib.Core.Bool.{Bool, true, false, _&&_, and-false}
 use mathlib.Core.List.{List, [], _∷_}
-use mathlib.Core.Path.{_≡_, refl, ap, sym, _∙_, subst}
-use Prim.Native.Nat.{ℕ, zero, suc, _+_, _-_, _≤_, _<_}
+use mathlib.Core.Path.{_≡_, refl, sym, _∙_, subst}
+use Prim.Native.Nat.{ℕ, suc, _+_, _-_, _<_}
 use native.Mathlib.Omega.{arith}
 use borrow.Author.Tests.{leb-false, leb-true, ne-eqb}
 use lib.Dec.{leb}
@@ -19,7 +19,6 @@ use Rattle.plain.proofs.StepLaws.{real-step}
 use Rattle.plain.specs.Plain.{Fills, Left, Stores, stateAt}
 use Rattle.plain.specs.declared.Filled.{Filled}
 use Rattle.scene.specs.HouseRules.{House, breachAt, houseRules}
-use Rattle.scene.specs.Record.{lineAt}
 use Rattle.scene.specs.declared.Settings.{Settings}
 use Rattle.statement.specs.declared.Draft.{Draft}
 use Rattle.statement.specs.declared.Phase.the-variants as is

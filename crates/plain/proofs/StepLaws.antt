@@ -1,20 +1,19 @@
 -- A good word in each phase of a plain statement: the step that it comes to, and that what holds between two words holds behind it.
-use mathlib.Core.Bool.{Bool, true, false, cond, not}
+use mathlib.Core.Bool.{true, false}
 use mathlib.Core.List.{List}
-use mathlib.Core.Option.{Option, some}
-use mathlib.Core.Path.{_≡_, refl, ap, sym, _∙_, subst}
+use mathlib.Core.Option.{some}
+use mathlib.Core.Path.{_≡_, refl, ap, sym, _∙_}
 use Prim.Native.Nat.{ℕ, zero, suc, _+_, _-_, _≤_, _<_}
 use native.Mathlib.Omega.{arith}
 use borrow.Author.Tests.{eq-eqb, le-leb, lt-ltb, ne-eqb}
-use lib.Dec.{eqb, leb, ltb}
 use lib.Ieee.{Float}
 use lib.ListN.{drop, getD, length, set}
 use lib.Seq.{length-take-le}
-use Rattle.arguments.specs.Steps.{integerCounted, integerCountStep, realCounted, realCountStep, realStep, stringCounted, stringCountStep, withReals, withStrings}
+use Rattle.arguments.specs.Steps.{integerCountStep, realCountStep, realStep, stringCountStep, withReals, withStrings}
 use Rattle.context.specs.Seen.{back, draftIn, isLookedUp, lookedFor, realBefore, seenIn}
 use Rattle.index.specs.Searches.{sought}
 use Rattle.index.specs.declared.Found.{Found}
-use Rattle.laws.specs.Bytes.{Bytes, bytes, part, same}
+use Rattle.laws.specs.Bytes.{Bytes, bytes, same}
 use Rattle.laws.proofs.RunLaws.{run-length}
 use Rattle.laws.specs.Runs.{past, run}
 use Rattle.lexer.specs.Class.{isBlank, isInLine, isOther}
@@ -23,23 +22,21 @@ use Rattle.lexer.specs.declared.Word.{Word}
 use Rattle.numeral.specs.Count.{countOf}
 use Rattle.numeral.specs.Numeral.{numeralOf, value}
 use Rattle.linker.specs.Entered.{behindIn}
-use Rattle.parser.specs.Steps.{nextStep, openedStep, stepOf, wordStep}
-use Rattle.plain.specs.Plain.{Left, Links, idleAt, stateAt}
+use Rattle.parser.specs.Steps.{nextStep, stepOf, wordStep}
+use Rattle.plain.specs.Plain.{Left, Links, stateAt}
 use Rattle.plain.specs.declared.Link.{Link}
 use Rattle.progress.proofs.NextLaws.{ready}
-use Rattle.progress.specs.Invariant.{Entered, Inv, Ready}
+use Rattle.progress.specs.Invariant.{Inv}
 use Rattle.scene.specs.HouseRules.{breachAt, houseRules}
 use Rattle.scene.specs.Statement.{void}
 use Rattle.scene.specs.Types.{isRetired, realsAllowed, stringsAllowed, typeNumber}
 use Rattle.scene.specs.declared.Settings.{Settings}
-use Rattle.statement.specs.Heads.{goingTo, kindStep, linkTo, modifierStep, nameStep, targetStep, typedAs, withKind, withName}
+use Rattle.statement.specs.Heads.{kindStep, modifierStep, nameStep, targetStep, withKind, withName}
 use Rattle.statement.specs.States.{between, clipped, countedIn, isIdle, movedTo, opened, openingOf}
 use Rattle.statement.specs.declared.Draft.{Draft}
-use Rattle.statement.specs.declared.Opening.{Opening}
 use Rattle.statement.specs.declared.Phase.{Phase}
 use Rattle.statement.specs.declared.Seen.{Seen}
 use Rattle.statement.specs.declared.State.{State}
-use Rattle.statement.specs.declared.Step.{Step}
 use Rattle.statement.specs.declared.Opening.the-variants as opening
 use Rattle.statement.specs.declared.Phase.the-variants as is
 use Rattle.statement.specs.declared.Step.the-variants as to

@@ -1,8 +1,8 @@
 -- Whole statements: what holds between two of them, where one is entered.
-use mathlib.Core.Bool.{Bool, true, false, cond, false≢true}
+use mathlib.Core.Bool.{true, false≢true}
 use mathlib.Core.List.{List}
 use mathlib.Core.Path.{_≡_, refl, ap, sym, _∙_, subst}
-use Prim.Native.Nat.{ℕ, zero, suc, _+_, _-_, _/_, _≤_, _<_}
+use Prim.Native.Nat.{ℕ, suc, _+_, _-_, _/_, _≤_, _<_}
 use native.Mathlib.Omega.{arith}
 use lib.Ieee.{Float}
 use lib.ListN.{length}
@@ -10,7 +10,7 @@ use Rattle.laws.specs.Bytes.{Bytes}
 use Rattle.line_numbers.proofs.LineLaws.{line-goes-on}
 use Rattle.line_numbers.specs.Lines.{lineFrom}
 use Rattle.linker.proofs.TableLaws.{behind-one}
-use Rattle.linker.specs.Entered.{enteredAt, enteredIn, indexedIn, lookedIn}
+use Rattle.linker.specs.Entered.{enteredAt, indexedIn, lookedIn}
 use Rattle.plain.specs.Plain.{Begins, Fills, Left, Stands, idleAt, stateAt, unfilled}
 use Rattle.plain.specs.declared.Between.{Between}
 use Rattle.plain.specs.declared.Filled.{Filled}
@@ -27,8 +27,6 @@ use Rattle.scene.specs.Reading.{statements}
 use Rattle.scene.specs.Record.{lineAt, width}
 use Rattle.scene.specs.declared.Settings.{Settings}
 use Rattle.statement.specs.States.{between, clipped, countedIn, isIdle}
-use Rattle.statement.specs.declared.Draft.{Draft}
-use Rattle.statement.specs.declared.Phase.{Phase}
 use Rattle.statement.specs.declared.State.{State}
 use Rattle.statement.specs.declared.Phase.the-variants as is
 use Rattle.plain.proofs.StepLaws.{comment-step}

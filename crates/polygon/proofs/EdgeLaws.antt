@@ -11,8 +11,8 @@ use lib.ListN.{length, drop, drop-of-length-le, getD}
 use lib.Seq.{drop-cons}
 use Rattle.laws.specs.Runs.{all}
 use Rattle.steps.specs.declared.Vector.{Vector}
-use Rattle.edges.specs.Code.{crossedOf, when}
-use Rattle.edges.specs.Corners.{Edge, cornersOf, edge, edgesFrom, edgesOf}
+use Rattle.edges.specs.Code.{when}
+use Rattle.edges.specs.Corners.{cornersOf, edge, edgesFrom, edgesOf}
 use Rattle.edges.specs.Crossing.{Crossed, crossed, inside, parity}
 use Rattle.edges.specs.Normal.{Axis, cross, normalOf, plus, sumFrom}
 

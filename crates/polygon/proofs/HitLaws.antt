@@ -2,14 +2,13 @@
 use mathlib.Core.Bool.{Bool, true, false, not, cond, _&&_}
 use mathlib.Core.List.{List, _∷_}
 use mathlib.Core.Path.{_≡_, refl, ap, sym, _∙_, subst}
-use Prim.Native.Nat.{ℕ, _≤_, _<_, _%_}
-use native.Mathlib.Omega.{arith}
+use Prim.Native.Nat.{_≤_, _%_}
 use borrow.Author.Tests.{leb-true, not-false}
 use lib.Dec.{eqb, leb}
 use lib.Ieee.{Float, le}
 use lib.Ieee.Scale.{finite}
 use lib.ListN.{length}
-use Rattle.hits.specs.Outcome.{Outcome, hit, miss, refused}
+use Rattle.hits.specs.Outcome.{Outcome, refused}
 use Rattle.hits.proofs.ShapeLaws.{hit-cond, plane-within}
 use Rattle.hits.specs.FromZero.{within}
 use Rattle.hits.specs.Plane.{inPlane, planeHit}
@@ -20,9 +19,9 @@ use Rattle.laws.specs.Runs.{all}
 use Rattle.steps.specs.Step.{+0}
 use Rattle.steps.specs.Vectors.{along, finiteVector}
 use Rattle.steps.specs.declared.Vector.{Vector}
-use Rattle.edges.specs.Code.{axisOf, crossedOf, when}
+use Rattle.edges.specs.Code.{when}
 use Rattle.edges.specs.Corners.{Edge, cornersOf, edgesOf}
-use Rattle.edges.specs.Crossing.{Crossed, inside}
+use Rattle.edges.specs.Crossing.{inside}
 use Rattle.edges.specs.Normal.{dropped, isZero, normalOf}
 use Rattle.polygon.specs.Polygon.{atCrossings, onCorners, onPolygon, polygonHit}
 

@@ -1,12 +1,11 @@
 -- With the least distance 0 a polygon's answers are the old ones.
-use mathlib.Core.Bool.{Bool, true, false, not, cond, _&&_, _||_, and-true}
+use mathlib.Core.Bool.{Bool, not, _&&_, _||_, and-true}
 use mathlib.Core.List.{List, [], _∷_}
-use mathlib.Core.Path.{_≡_, refl, ap, _∙_}
+use mathlib.Core.Path.{_≡_, refl}
 use Prim.Native.Nat.{ℕ, _≤_, _<_}
 use mathlib.Core.Logic.{_⊎_, inl, inr}
 use borrow.Author.Tests.{le-leb, le-ltb, lt-leb, lt-ltb}
 use lib.Dec.{leb, ltb}
-use lib.Ieee.{Float}
 use Rattle.edges.specs.Corners.{edgesOf}
 use Rattle.edges.specs.Normal.{normalOf}
 use Rattle.hits.proofs.ShapeLaws.{hit-cond, plane-within}
@@ -17,7 +16,7 @@ use Rattle.laws.proofs.NatLaws.{le-or-lt}
 use Rattle.steps.specs.Step.{+0}
 use Rattle.steps.specs.declared.Vector.{Vector}
 use Rattle.polygon.specs.FromZero.{OldAnswers, cornersFromZero, polygonFromZero}
-use Rattle.polygon.specs.Polygon.{onCorners, onPolygon, polygonHit}
+use Rattle.polygon.specs.Polygon.{onCorners, onPolygon}
 
 corners-old : (ray : Ray) (cs : List Vector) → hitOf +0 (onCorners ray cs) ≡ cornersFromZero ray cs
 corners-old ray [] = refl

@@ -7,7 +7,7 @@ use lib.ListN.{length, getD, take, drop, replicate, take-append-drop, drop-of-le
 use lib.Seq.{drop-at, getD-take, length-front, length-take-le, take-all, take-at}
 use Rattle.laws.specs.Bytes.{Bytes}
 use Rattle.scene.specs.Record.{filled}
-use Rattle.sort.specs.Sort.{earlier, room, sorted}
+use Rattle.name_order.specs.Sort.{earlier, room, sorted}
 use Rattle.ranks.proofs.CountLaws.{Ranking, ranking-none, ranking-more, ranking-all}
 use Rattle.ranks.proofs.RankLaws.{entry-length}
 use Rattle.ranks.specs.Rank.{orderTable, rankBehind, withEntry, withRanks}

@@ -18,9 +18,9 @@ use Rattle.laws.proofs.BytesLaws.{same-eq, same-refl}
 use Rattle.laws.proofs.NatLaws.{le-or-lt}
 use Rattle.laws.specs.Bytes.{Bytes, same}
 use Rattle.scene.specs.Record.{filled, nameIn, width}
-use Rattle.sort.proofs.SortLaws.{before-has, before-lacks, earlier-strict, sorted-law, sorted-length}
+use Rattle.name_order.proofs.SortLaws.{before-has, before-lacks, earlier-strict, sorted-law, sorted-length}
 use Rattle.ranks.specs.Rank.{rankBehind, entryOf, withEntry, ranksFrom, ranksOf}
-use Rattle.sort.specs.Sort.{Before, Rising, earlier, has, insert, room, sorted}
+use Rattle.name_order.specs.Sort.{Before, Rising, earlier, has, insert, room, sorted}
 
 -- ---- entries
 

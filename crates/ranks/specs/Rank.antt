@@ -5,7 +5,7 @@ use Prim.Native.Nat.{ℕ, zero, suc, _-_, _/_}
 use lib.ListN.{length, set, getD, replicate, take}
 use Rattle.laws.specs.Bytes.{Bytes, same}
 use Rattle.scene.specs.Record.{filled, nameIn}
-use Rattle.sort.specs.Sort.{earlier, room, sorted}
+use Rattle.name_order.specs.Sort.{earlier, room, sorted}
 
 -- record x's rank behind record p, which is the kth of its name
 unfoldable pub rankBehind : Bytes → (records : List ℕ) → (p k x : ℕ) → ℕ

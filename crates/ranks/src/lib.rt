@@ -75,6 +75,6 @@ pub fn order_names(text: &[u8], records: &[u32], table: &mut [u32], scratch: &mu
     ensures { λ _. ⌜ now (scratch .exit) ≡ replicate (length (now (scratch .entry))) 0 ⌝ }
 {
     let half = table.len() / 2;
-    sort::order(text, records, &mut table[..half], scratch);
+    name_order::order(text, records, &mut table[..half], scratch);
     rank_half(text, records, table);
 }

@@ -6,6 +6,7 @@ use Prim.Native.Nat.{ℕ, _≤_}
 use lib.Ieee.{Float}
 use lib.ListN.{length}
 use Rattle.laws.specs.Bytes.{Bytes}
+use Rattle.laws.specs.Shuffle.{Shuffle}
 use Rattle.reader.specs.Exchange.{SameScene}
 use Rattle.reader.specs.Indexed.{ReadsIndexed}
 use Rattle.reader.specs.Paired.{ReadsPaired}
@@ -13,7 +14,7 @@ use Rattle.reader.specs.declared.Answer.{Answer}
 use Rattle.reader.specs.declared.Answer.the-variants.{Accepted}
 use Rattle.reader.specs.declared.Indexed.{Indexed}
 use Rattle.rearrangement.specs.Cut.{Cut, Piece, joined, pieces, textOf}
-use Rattle.rearrangement.specs.Order.{Ordered, Renumbering, Shuffle}
+use Rattle.rearrangement.specs.Order.{Ordered, Renumbering}
 use Rattle.scene.specs.Reading.{Entry, accepted}
 use Rattle.scene.specs.Record.{settingsFor}
 use Rattle.scene.specs.declared.Mode.{Mode}

@@ -5,12 +5,13 @@ use mathlib.Core.Path.{_≡_, refl, ap, sym, _∙_, subst, subst₂}
 use Prim.Native.Nat.{ℕ, suc, _+_, _-_, _≤_, _<_}
 use native.Mathlib.Omega.{arith}
 use lib.ListN.{length, length-append}
+use Rattle.laws.specs.Shuffle.{Shuffle}
 use Rattle.rearrangement.proofs.BeforeLaws.{before-in, before-other, before-past, before-same}
 use Rattle.rearrangement.proofs.ClearLaws.{Free, free-clear, saids, saids-append}
 use Rattle.rearrangement.proofs.PieceLaws.{In, Rising, free-of, in-cases, in-left, in-right, rising-first, rising-last, rising-less, rising-low, rising-out, shuffle-in}
 use Rattle.rearrangement.proofs.WayLaws.{Way, way-same, way-swap, way-then}
 use Rattle.rearrangement.specs.Cut.{Piece}
-use Rattle.rearrangement.specs.Order.{Ordered, Shuffle, statementsBefore}
+use Rattle.rearrangement.specs.Order.{Ordered, statementsBefore}
 use Rattle.scene.proofs.SwapLaws.{shift-first, shift-high, shift-low, shift-second}
 use Rattle.scene.specs.Block.{shift}
 use Rattle.scene.specs.Statement.{Statement}

@@ -4,9 +4,10 @@ use mathlib.Core.Logic.{_⊎_, inl, inr}
 use mathlib.Core.Path.{_≡_, refl, sym, subst}
 use Prim.Native.Nat.{ℕ, suc, _≤_, _<_}
 use native.Mathlib.Omega.{arith}
+use Rattle.laws.specs.Shuffle.{Shuffle}
 use Rattle.rearrangement.proofs.ClearLaws.{Free}
 use Rattle.rearrangement.specs.Cut.{Piece}
-use Rattle.rearrangement.specs.Order.{Passes, Shuffle}
+use Rattle.rearrangement.specs.Order.{Passes}
 use Rattle.scene.specs.Block.{Independent}
 
 -- ---- blocks of a list

@@ -8,13 +8,14 @@ use native.Mathlib.Omega.{arith}
 use lib.Dec.{leb}
 use lib.ListN.{length}
 use Rattle.laws.specs.Bytes.{Bytes}
+use Rattle.laws.specs.Shuffle.{Shuffle}
 use Rattle.rearrangement.proofs.ClearLaws.{saids}
 use Rattle.rearrangement.proofs.CutLaws.{Read, length-shuffle, pieces-read, pieces-rise, pieces-text, read-lines, read-shuffle, start-cuts-none}
 use Rattle.rearrangement.proofs.FrontLaws.{Turned, turned}
 use Rattle.rearrangement.proofs.PieceLaws.{In, in-right}
 use Rattle.rearrangement.proofs.WayLaws.{Way}
 use Rattle.rearrangement.specs.Cut.{Cut, Piece, joined, pieces, textOf}
-use Rattle.rearrangement.specs.Order.{Ordered, Renumbering, Shuffle, statementsBefore}
+use Rattle.rearrangement.specs.Order.{Ordered, Renumbering, statementsBefore}
 use Rattle.rearrangement.specs.Rearranged.{RearrangeLaw}
 use Rattle.scene.proofs.AcceptLaws.{accept-back, accept-forth, read-inv}
 use Rattle.scene.proofs.SyntaxLaws.{parse, pass}

@@ -2,3 +2,5 @@
 pub mod Cut
 pub mod Order
 pub mod Rearranged
+pub mod Blocks
+pub mod Held

@@ -8,11 +8,6 @@ use lib.ListN.{length}
 use Rattle.rearrangement.specs.Cut.{Piece}
 use Rattle.scene.specs.Block.{Independent}
 
--- the first of the new order stands somewhere in the old one, and so for the rest
-abbrev pub Shuffle : (old new : List Piece) → Type 0
-Shuffle old [] = old ≡ []
-Shuffle old (c ∷ new) = (xs : List Piece) × (ys : List Piece) × (old ≡ xs ++ c ∷ ys) × Shuffle (xs ++ ys) new
-
 -- c stands before each of these now: of those that it stood behind it is independent
 abbrev pub Passes : Piece → List Piece → Type 0
 Passes c [] = Unit {0}

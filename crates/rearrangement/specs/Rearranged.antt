@@ -6,8 +6,9 @@ use Prim.Native.Nat.{ℕ, _≤_, _<_}
 use lib.ListN.{length}
 use Rattle.graph.specs.Answers.{shows}
 use Rattle.laws.specs.Bytes.{Bytes}
+use Rattle.laws.specs.Shuffle.{Shuffle}
 use Rattle.rearrangement.specs.Cut.{Cut, Piece, joined, pieces, textOf}
-use Rattle.rearrangement.specs.Order.{Ordered, Renumbering, Shuffle}
+use Rattle.rearrangement.specs.Order.{Ordered, Renumbering}
 use Rattle.scene.specs.Exchange.{Renumbers}
 use Rattle.scene.specs.Reading.{Entry, accepted, statements}
 use Rattle.scene.specs.declared.Settings.{Settings}

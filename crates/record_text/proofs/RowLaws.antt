@@ -3,7 +3,7 @@ use mathlib.Core.Bool.{Bool, true, false, cond}
 use mathlib.Core.List.{List, [], _∷_, _++_, append-assoc}
 use mathlib.Core.Option.{some}
 use mathlib.Core.Path.{_≡_, refl, ap, sym, _∙_, subst}
-use Prim.Native.Nat.{ℕ, suc, _+_, _-_}
+use Prim.Native.Nat.{ℕ, suc, _+_}
 use native.Mathlib.Numerals.{add-one}
 use native.Mathlib.Omega.{arith}
 use borrow.Author.Tests.{eq-eqb, ne-eqb}
@@ -11,8 +11,8 @@ use lib.Dec.{eqb, eqb·suc-zero}
 use lib.ListN.{length, length-append}
 use Rattle.laws.proofs.BytesLaws.{same-eq}
 use Rattle.laws.specs.Bytes.{Bytes, bytes, same}
-use Rattle.lexer.specs.Word.{wordBytes, wordEnd}
-use Rattle.lines.specs.Arguments.{behindWords, stringWords, realWords}
+use Rattle.lexer.specs.Word.{behindWords, wordBytes, wordEnd}
+use Rattle.lines.specs.Arguments.{stringWords, realWords}
 use Rattle.scene.proofs.ImageLaws.{record-is, name-is}
 use Rattle.scene.proofs.KeptLaws.{Each, each-tail}
 use Rattle.scene.proofs.PlaceLaws.{spelt-words}

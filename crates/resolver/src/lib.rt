@@ -1,7 +1,6 @@
 // The sides of mixtures. Their names may be defined below them, so they are looked up when all of a text is read, and stored in a lent
 // table of pairs.
 ghost use mathlib.Core.Path.{_≡_};
-ghost use lib.ListN.{length};
 ghost use Rattle.resolver.specs.Code.{PutsPair, Resolves, Sides, sideAt};
 use kinds::MIXFUNC;
 use table::KIND;

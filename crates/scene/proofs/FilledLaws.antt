@@ -1,10 +1,10 @@
 -- A lent table of numbers that is filled from its front on.
-use mathlib.Core.List.{List, [], _∷_, _++_, append-assoc}
-use mathlib.Core.Path.{_≡_, refl, ap, sym, _∙_}
+use mathlib.Core.List.{List, _∷_, _++_, append-assoc}
+use mathlib.Core.Path.{_≡_, ap, _∙_}
 use Prim.Native.Nat.{ℕ, zero, suc, _+_, _-_, _≤_}
 use native.Mathlib.Nat.{sub-zero, suc-sub-suc, zero-sub}
 use native.Mathlib.Omega.{arith}
-use lib.ListN.{drop, length, length-append, length-replicate, replicate, take}
+use lib.ListN.{drop, length, length-append, length-replicate, replicate}
 use lib.Seq.{drop-append-add, sets, sets-eq, take-append-seam}
 use Rattle.scene.specs.Record.{filled}
 

@@ -23,6 +23,7 @@ pub mod ReadingLaws
 pub mod LowestLaws
 pub mod PropertyLaws
 pub mod MeaningLaws
+pub mod AlikeLaws
 pub mod ModeLaws
 pub mod RiseLaws
 pub mod LineLaws

@@ -1,19 +1,17 @@
 -- The two modes of reading differ in texts that the new one refuses with 28, and in nothing else.
 use mathlib.Core.Bool.{Bool, true, false, cond}
-use mathlib.Core.List.{List, [], _∷_, _++_}
+use mathlib.Core.List.{List}
 use mathlib.Core.Logic.{_⊎_, inl, inr}
-use mathlib.Core.Path.{_≡_, refl, ap, sym, _∙_, subst}
+use mathlib.Core.Path.{_≡_, refl, ap, sym, _∙_}
 use Prim.Native.Nat.{ℕ, zero, suc}
 use native.Mathlib.Omega.{arith}
-use lib.Dec.{leb}
-use lib.ListN.{length}
 use Rattle.laws.proofs.BoolLaws.{cond-elim}
 use Rattle.laws.specs.Bytes.{Bytes, bytes, same}
 use Rattle.lexer.specs.Word.{wordFault}
-use Rattle.scene.proofs.EdgeLaws.{run-stopped}
+use Rattle.scene.proofs.AlikeLaws.{Alike, read-alike}
 use Rattle.scene.specs.Archive.{inMode, ArchiveLaw, OnlyRetiredDiffer}
 use Rattle.scene.specs.Phase.{Part, atType, atName, atStringCount, atString, atIntegerCount, atRealCount, atReal, atAliasName, atTarget, Phase, idle, busy, Turn, fault, onto, typed, turn, Outcome, refuse, outcome, taken, unlessFault, word}
-use Rattle.scene.specs.Reading.{Move, keep, first, command, ended, move, partTest, test, Going, State, stopped, going, statements, settle, advance, feed, run, initial, refused, accepted, finish, newline, readStatements}
+use Rattle.scene.specs.Reading.{ended, partTest, test, Going, statements, settle, advance, refused, accepted, readStatements}
 use Rattle.scene.specs.Statement.{Statement}
 use Rattle.scene.specs.Types.{typeNumber, isRetired}
 use Rattle.scene.specs.declared.Mode.the-variants.{New, Archive}
@@ -80,41 +78,15 @@ module _ (r : Settings) where
 
   -- ---- a text
 
-  -- two states: the same, or the first is stopped with 28
-  abbrev Alike : State → State → Type 0
-  Alike X Y = (X ≡ Y) ⊎ ((p : ℕ) × (X ≡ stopped 28 p))
-
-  advance-alike : (g : Going) (mv : Move) → Alike (advance new g mv) (advance old g mv)
-  advance-alike g (keep m) = inl refl
-  advance-alike g (first b) = inl refl
-  advance-alike g command = inl refl
-  advance-alike g (ended w) = go (word-alike (g .phase) w)
+  words-alike : (g : Going) (w : Bytes) → Alike 28 (advance new g (ended w)) (advance old g (ended w))
+  words-alike g w = go (word-alike (g .phase) w)
     where
-      go : (word new (g .phase) w ≡ word old (g .phase) w) ⊎ (word new (g .phase) w ≡ refuse 28) → Alike (advance new g (ended w)) (advance old g (ended w))
+      go : (word new (g .phase) w ≡ word old (g .phase) w) ⊎ (word new (g .phase) w ≡ refuse 28) → Alike 28 (advance new g (ended w)) (advance old g (ended w))
       go (inl e) = inl (λ i. settle g (e i) (same-test (statements (g .above)) (g .phase) w i))
       go (inr e) = inr (g .places .word, ap (λ (o : Outcome). settle g o (test new (statements (g .above)) (g .phase) w)) e)
 
-  feed-alike : (X : State) (b : ℕ) → Alike (feed new X b) (feed old X b)
-  feed-alike (stopped n p) b = inl refl
-  feed-alike (going g) b = advance-alike g (move (g .scan) (g .phase) b)
-
-  run-alike : (t : Bytes) (X : State) → Alike (run new X t) (run old X t)
-  unfolding run
-  run-alike [] X = inl refl
-  run-alike (b ∷ t) X = go (feed-alike X b) (run-alike t (feed old X b))
-    where
-      go : Alike (feed new X b) (feed old X b) → Alike (run new (feed old X b) t) (run old (feed old X b) t) → Alike (run new (feed new X b) t) (run old (feed old X b) t)
-      go (inl e) h = subst (λ (Y : State). Alike (run new Y t) (run old (feed old X b) t)) (sym e) h
-      go (inr (p, e)) h = inr (p, ap (λ (Y : State). run new Y t) e ∙ run-stopped new 28 p t)
-
 pub only-retired : OnlyRetiredDiffer
-unfolding readStatements
-only-retired r text = go (leb (length text) 65536) (run-alike r (text ++ newline) initial)
-  where
-    go : (b : Bool) {X Y : State} → Alike r X Y → (cond b (finish (length text) X) (refused 1 0) ≡ cond b (finish (length text) Y) (refused 1 0)) ⊎ ((p : ℕ) × (cond b (finish (length text) X) (refused 1 0) ≡ refused 28 p))
-    go true (inl e) = inl (ap (finish (length text)) e)
-    go true (inr (p, e)) = inr (p, ap (finish (length text)) e)
-    go false h = inl refl
+only-retired r = read-alike (new r) (old r) 28 (words-alike r)
 
 pub archive-law : ArchiveLaw
 archive-law r text es e = go (only-retired r text)

@@ -1,13 +1,12 @@
 -- Ways after a renumbering: what a primitive led to it leads to under the new numbers.
 use mathlib.Core.Bool.{Bool, true, false, cond, false≢true}
-use mathlib.Core.List.{List, [], _∷_, _++_}
-use mathlib.Core.Logic.{_⊎_, inl, inr}
+use mathlib.Core.List.{List, [], _∷_}
+use mathlib.Core.Logic.{inl, inr}
 use mathlib.Core.Path.{_≡_, refl, ap, sym, _∙_, subst}
 use Prim.Native.Nat.{ℕ, zero, suc, _+_, _-_, _≤_, _<_}
 use native.Mathlib.Omega.{arith}
 use lib.Dec.{eqb}
 use lib.ListN.{getD, length, length-append}
-use borrow.Author.Tests.{eqb-true}
 use Rattle.graph.proofs.GraphLaws.{Among, link-inv, link-of}
 use Rattle.graph.proofs.LowestLaws.{lowest-none, lowest-passes}
 use Rattle.graph.specs.Answers.{leads, looped, lowest, lowestLoop}
@@ -19,7 +18,7 @@ use Rattle.scene.proofs.RenumberLaws.{Renamed}
 use Rattle.scene.proofs.RowLaws.{Moved}
 use Rattle.scene.specs.Links.{latest, modifierLink, ownBody, stringsIn, typeIn}
 use Rattle.scene.specs.Statement.{Statement, void}
-use Rattle.scene.specs.Told.{Told, renumbered, told}
+use Rattle.scene.specs.Told.{Told, told}
 use Rattle.sides.proofs.SideLaws.{from-here, found-at, scene-within, stands}
 use Rattle.sides.specs.Exchange.{renumberedSides}
 use Rattle.sides.specs.Sides.{fromNumber, nodeAt, sceneGraph, sides, sidesAt, sidesIn, sidesOf}

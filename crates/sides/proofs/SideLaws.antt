@@ -18,7 +18,7 @@ use Rattle.scene.proofs.TellsLaws.{At, at, nth-at, records-length, split-statem
 use Rattle.mixtures.specs.Walk.{Within}
 use Rattle.scene.specs.Links.{latest, modifierLink, ownBody, stringsIn, typeIn}
 use Rattle.scene.specs.Reading.{Entry, accepted, refused, statements}
-use Rattle.scene.specs.Record.{Record, filled, nothing, nth, recordImage, recordIn, recordOf, records, recordsFrom}
+use Rattle.scene.specs.Record.{Record, filled, nothing, nth, recordImage, recordOf, records, recordsFrom}
 use Rattle.scene.specs.Statement.{Statement, void}
 use Rattle.sides.specs.Sides.{fromNumber, nodeAt, pairImage, pairOf, pairs, pairsFrom, sceneGraph, sides, sidesAt, sidesIn, sidesOf}
 use Rattle.table.specs.View.{Node}

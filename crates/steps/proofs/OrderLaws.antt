@@ -8,7 +8,6 @@ use borrow.Author.Tests.{eqb-true, lt-ltb, ltb-true}
 use lib.Dec.{eqb, ltb}
 use lib.Ieee.{Float, nan, inf, fin, below, level, down, eq, le, lt, up}
 use lib.Ieee.Fits.{down-pos}
-use lib.IntN.{ℤ}
 use Rattle.steps.specs.Step.{+0}
 
 -- ---- ±a ≤ ±b and ±a < ±b

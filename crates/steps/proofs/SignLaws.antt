@@ -27,7 +27,7 @@ nonneg-abs nan = tt
 nonneg-abs (inf s) = tt
 nonneg-abs (fin s m e) = tt
 
-nonneg-round : (f : Format) (s : Bool) (a c : ℕ) → 0 < c → (T s → a ≡ 0) → NonNeg (round f s a c)
+pub nonneg-round : (f : Format) (s : Bool) (a c : ℕ) → 0 < c → (T s → a ≡ 0) → NonNeg (round f s a c)
 nonneg-round f false a c C h = subst NonNeg (signed-round (λ s. false) f false a c) (nonneg-abs (round f false a c))
 nonneg-round f true a c C h = subst (λ (n : ℕ). NonNeg (round f true n c)) (sym (h tt)) (subst NonNeg (sym (round-zero f true c C)) refl)
 

@@ -1,14 +1,13 @@
 -- In the tables of an accepted text a polygon is hit where the reals of its statement say.
 use mathlib.Core.List.{List, [], _∷_, _++_}
-use mathlib.Core.Path.{_≡_, refl, ap, sym, _∙_, subst}
-use Prim.Native.Nat.{ℕ, _/_, suc, _+_, _-_, _≤_, min}
+use mathlib.Core.Path.{_≡_, refl, ap, _∙_, subst}
+use Prim.Native.Nat.{ℕ, _/_, suc, _+_, _-_, _≤_}
 use native.Mathlib.Nat.{min-le-left}
 use native.Mathlib.Omega.{arith}
 use borrow.Author.Tests.{eq-eqb, le-leb, ne-eqb}
 use lib.Ieee.{Float}
 use lib.ListN.{length, length-append, length-drop, length-take, replicate, take, drop}
 use lib.Seq.{take-append-le, drop-append-le}
-use Rattle.hits.specs.Outcome.{refused}
 use Rattle.hits.specs.declared.Ray.{Ray}
 use Rattle.laws.specs.Bytes.{Bytes}
 use Rattle.polygon.specs.Polygon.{polygonHit}
@@ -20,10 +19,8 @@ use Rattle.scene.specs.Record.{Record, firstReal, realImage, realTable, recordI
 use Rattle.scene.specs.Statement.{Body, Statement}
 use Rattle.scene.specs.Told.{Told, realsOf, tells, told}
 use Rattle.scene.specs.declared.Mode.{Mode}
-use Rattle.scene.specs.declared.Settings.{Settings}
 use Rattle.sides.proofs.MixedLaws.{resolved, same-reading}
 use Rattle.table.proofs.ImageLaws.{image-row, number-fine}
-use Rattle.table.specs.Question.{numberRefusal}
 use Rattle.table_polygon.specs.InTable.{cornersTest, hitInTable, polygonRefusal, polygonType}
 use Rattle.table_polygon.specs.Meaning.{Means, MeaningLaw}
 

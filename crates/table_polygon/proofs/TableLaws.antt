@@ -5,7 +5,7 @@ use Prim.Native.Nat.{ℕ, _+_, _≤_, _<_}
 use borrow.Author.Tests.{le-leb, lt-leb, eq-eqb, ne-eqb}
 use lib.Ieee.{Float}
 use lib.ListN.{length}
-use Rattle.hits.specs.Outcome.{Outcome, refused}
+use Rattle.hits.specs.Outcome.{refused}
 use Rattle.hits.specs.declared.Ray.{Ray}
 use Rattle.laws.specs.Bytes.{same}
 use Rattle.polygon.specs.Polygon.{polygonHit}

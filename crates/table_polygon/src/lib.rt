@@ -1,6 +1,5 @@
 // Where a ray hits a polygon of a finished table. The tables may hold anything.
 ghost use mathlib.Core.Path.{_≡_};
-ghost use lib.ListN.{length};
 ghost use Rattle.hits.specs.Ahead.{defaultLeast};
 ghost use Rattle.hits.specs.Outcome.{outcomeOf};
 ghost use Rattle.table_polygon.specs.InTable.{cornersTest, hitInTable, polygonRefusal};

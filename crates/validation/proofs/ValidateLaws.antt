@@ -9,7 +9,7 @@ use lib.ListN.{length, replicate}
 use Rattle.graph.specs.Answers.{lowestLoop}
 use Rattle.graph.specs.Graph.{Graph, graphOf}
 use Rattle.laws.specs.Bytes.{Bytes}
-use Rattle.validation.specs.Validated.{Loops, ValidatedAs, Validates, loopTold, toldAs}
+use Rattle.validation.specs.Validated.{Loops, Validates, loopTold, toldAs}
 use Rattle.validation.specs.declared.Validity.{Validity}
 use Rattle.validation.specs.declared.Validity.the-variants.{Refused, Valid}
 use Rattle.loops.specs.Found.{Finds}
@@ -21,8 +21,7 @@ use Rattle.resolver.specs.declared.Resolved.the-variants.{Known, Plain, Unknown
 use Rattle.scene.proofs.FlatLaws.{record-in}
 use Rattle.scene.proofs.TellsLaws.{statements-length}
 use Rattle.scene.specs.Reading.{Entry, accepted, statements}
-use Rattle.scene.specs.Record.{Record, fieldIn, filled, nth, recordImage, recordIn, records}
-use Rattle.scene.specs.Statement.{Statement}
+use Rattle.scene.specs.Record.{Record, fieldIn, filled, recordImage, recordIn, records}
 use Rattle.scene.specs.declared.Settings.{Settings}
 use Rattle.sides.proofs.SideLaws.{scene-within, tables-graph}
 use Rattle.sides.specs.Read.{firstUnknown, mixed, settled}

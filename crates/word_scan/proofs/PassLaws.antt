@@ -1,9 +1,8 @@
 -- Good bytes up to a blank or the text's end are the next word, and no line ends among them.
 use mathlib.Core.Bool.{Bool, true, false, not, _||_, cond, false≢true}
-use mathlib.Core.List.{List, [], _∷_}
-use mathlib.Core.Logic.{_⊎_, inl, inr}
+use mathlib.Core.List.{[], _∷_}
 use mathlib.Core.Option.{some}
-use mathlib.Core.Path.{_≡_, refl, ap, sym, _∙_, subst}
+use mathlib.Core.Path.{_≡_, refl, ap, sym, _∙_}
 use Prim.Native.Nat.{ℕ, zero, suc, _+_, _-_, _≤_, _<_}
 use native.Mathlib.Numerals.{add-one}
 use native.Mathlib.Omega.{arith}
@@ -18,7 +17,7 @@ use Rattle.laws.specs.Runs.{all, past, run}
 use Rattle.lexer.proofs.CheckedLaws.{good-word}
 use Rattle.lexer.proofs.ClassLaws.{blank-not-good}
 use Rattle.lexer.specs.Class.{isBlank, isGood, isInLine, isOther}
-use Rattle.lexer.specs.Word.{checkedAt, endsWord, wordAt, wordBytes, wordEnd, wordFault}
+use Rattle.lexer.specs.Word.{checkedAt, endsWord, wordAt, wordBytes}
 use Rattle.lexer.specs.declared.Checked.{Checked}
 use Rattle.numeral.specs.Count.{countOf}
 use Rattle.numeral_parts.proofs.DigitLaws.{digit-high, digit-low}

@@ -25,46 +25,57 @@ use Rattle.reader.specs.Answer.{readInto}
 use Rattle.record_text.proofs.RowLaws.{written}
 use Rattle.record_text.specs.RecordText.{recordTexts}
 use Rattle.scene.specs.Reading as reading
-use Rattle.scene.specs.Reading.{Reading, accepted, statements}
+use Rattle.scene.specs.Reading.{Entry, Reading, accepted, readStatements, statements}
 use Rattle.scene.specs.Record.{filled, recordImage, realImage, settingsFor}
+use Rattle.scene.specs.Statement.{Statement}
 use Rattle.scene.specs.declared.Mode.{Mode}
 use Rattle.scene.specs.declared.Settings.{Settings}
 use Rattle.sides.proofs.MixedLaws.{resolved}
 use Rattle.sides.specs.Read.{read}
 use Rattle.tidying.specs.Tidy.{tidy}
 use Rattle.writer.specs.Answer as answer
-use Rattle.writer.specs.Answer.{refused, fitted, outcomeOf, tidied, answered, Writes}
+use Rattle.writer.specs.Answer.{Outcome, refused, fitted, checked, tidied, answered, Writes}
 use Rattle.writer.specs.declared.Answer.the-variants as call
 
 -- ---- the comparison of the tables
 
-module _ (text : Bytes) (table : List ℕ) (doubles : List Float) (room : ℕ) where
-  refused-as : (x : Reading) (n p : ℕ) → fresh.Refused n p ≡ freshOf text table doubles x → outcomeOf text table doubles room x ≡ refused n p
+-- the statements of a text whose tables match, and what is made of them
+pub record Matched (made : List Statement → Outcome) (r : Settings) (text : Bytes) (table : List ℕ) (doubles : List Float) (x : Reading) (n : ℕ) : Type 0 where
+  pub entries : List Entry
+  pub reads : readStatements r text ≡ accepted entries
+  pub count : n ≡ length entries
+  pub own : table ≡ recordImage text (length table) (accepted entries)
+  pub outcome : checked made text table doubles x ≡ made (statements entries)
+
+module _ (made : List Statement → Outcome) (text : Bytes) (table : List ℕ) (doubles : List Float) where
+  pub refused-as : (x : Reading) (n p : ℕ) → fresh.Refused n p ≡ freshOf text table doubles x → checked made text table doubles x ≡ refused n p
   refused-as (reading.refused m q) n p e =
       let a : m ≡ n = cc in
       let b : q ≡ p = cc in
       λ i. refused (a i) (b i)
   refused-as (accepted es) n p e = go (tablesMatch text table doubles (accepted es)) e
     where
-      go : (t : Bool) → fresh.Refused n p ≡ cond t (fresh.Same (length es)) (fresh.Refused 22 0) → cond t (fitted room (tidy (statements es))) (refused 22 0) ≡ refused n p
+      go : (t : Bool) → fresh.Refused n p ≡ cond t (fresh.Same (length es)) (fresh.Refused 22 0) → cond t (made (statements es)) (refused 22 0) ≡ refused n p
       go true h = let z : _≡_ {A = ℕ} 0 1 = cc in absurd (omega arith)
       go false h =
           let a : 22 ≡ n = cc in
           let b : 0 ≡ p = cc in
           λ i. refused (a i) (b i)
 
-  -- tables that match are those that the records' texts are made from
-  same-as : (r : Settings) (x : Reading) (n : ℕ) → read r text ≡ x → fresh.Same n ≡ freshOf text table doubles x → outcomeOf text table doubles room x ≡ fitted room (recordTexts text table n)
+  pub same-as : (r : Settings) (x : Reading) (n : ℕ) → read r text ≡ x → fresh.Same n ≡ freshOf text table doubles x → Matched made r text table doubles x n
   unfolding tablesMatch
   same-as r (reading.refused m q) n d e = let z : _≡_ {A = ℕ} 0 1 = cc in absurd (omega arith)
   same-as r (accepted es) n d e = go (tablesMatch text table doubles (accepted es)) refl e
     where
-      go : (t : Bool) → tablesMatch text table doubles (accepted es) ≡ t → fresh.Same n ≡ cond t (fresh.Same (length es)) (fresh.Refused 22 0) → cond t (fitted room (tidy (statements es))) (refused 22 0) ≡ fitted room (recordTexts text table n)
+      go : (t : Bool) → tablesMatch text table doubles (accepted es) ≡ t → fresh.Same n ≡ cond t (fresh.Same (length es)) (fresh.Refused 22 0) → Matched made r text table doubles (accepted es) n
       go false f h = let z : _≡_ {A = ℕ} 0 1 = cc in absurd (omega arith)
-      go true f h =
-          let a : n ≡ length es = cc in
-          let t = same-eq table (recordImage text (length table) (accepted es)) (and-left _ (sameReals doubles (realImage (length doubles) (accepted es))) f) in
-          ap (fitted room) (sym (written r text es (length table) (resolved r text es d .reads)) ∙ (λ i. recordTexts text (sym t i) (sym a i)))
+      go true f h = record {
+        entries = es;
+        reads = resolved r text es d .reads;
+        count = cc;
+        own = same-eq table (recordImage text (length table) (accepted es)) (and-left _ (sameReals doubles (realImage (length doubles) (accepted es))) f);
+        outcome = ap (λ (t : Bool). cond t (made (statements es)) (refused 22 0)) f;
+      }
 
 -- ---- what was put from the front of an output on
 
@@ -109,12 +120,15 @@ cleared-from out at start s rest z =
 module _ (mode : Mode) (text : Bytes) (table : List ℕ) (doubles : List Float) (out : Bytes) where
   pub writes-refused : (n p : ℕ) → fresh.Refused n p ≡ freshOf text table doubles (readInto mode text table doubles) → {out′ : Bytes} → out′ ≡ filled 0 (length out) [] → Writes mode text table doubles out (call.Refused n p) out′
   writes-refused n p e z =
-      let o = refused-as text table doubles (length out) (readInto mode text table doubles) n p e in
+      let o = refused-as (λ D. fitted (length out) (tidy D)) text table doubles (readInto mode text table doubles) n p e in
       record { says = ap answered (sym o); output = z ∙ ap (answer.output (length out)) (sym o) }
 
   module _ (n : ℕ) (e : fresh.Same n ≡ freshOf text table doubles (readInto mode text table doubles)) {r : Cursor} {mid : Bytes} (p : Puts out front (recordTexts text table n) r mid) where
     fitted-as : tidied mode text table doubles (length out) ≡ fitted (length out) (recordTexts text table n)
-    fitted-as = same-as text table doubles (length out) (settingsFor mode (length table) (length doubles)) (readInto mode text table doubles) n refl e
+    fitted-as =
+        let R = settingsFor mode (length table) (length doubles) in
+        let m = same-as (λ D. fitted (length out) (tidy D)) text table doubles R (readInto mode text table doubles) n refl e in
+        m .outcome ∙ ap (fitted (length out)) (sym (written R text (m .entries) (length table) (m .reads)) ∙ (λ i. recordTexts text (sym (m .own) i) (sym (m .count) i)))
 
     pub writes-too-long : r .full ≡ true → {out′ : Bytes} → out′ ≡ filled 0 (length mid) [] → Writes mode text table doubles out (call.Refused 23 0) out′
     writes-too-long f z =

@@ -2,7 +2,6 @@
 use mathlib.Core.Path.{refl}
 use lib.Ieee.{ofBits}
 use Rattle.edges.specs.Normal.{isZero}
-use borrow.Author.Needs.{needs}
 use Rattle.edges.proofs.is_zero.Statement.{statement}
 use Rattle.edges.proofs.is_zero.Tie as tie
 

@@ -1,7 +1,6 @@
 -- `edges::magnitude_of` meets its contract.
 use lib.Ieee.{ofBits}
 use Rattle.edges.specs.Normal.{magnitude}
-use borrow.Author.Needs.{needs}
 use Rattle.edges.proofs.magnitude_of.Statement.{statement}
 use Rattle.edges.proofs.magnitude_of.Tie as tie
 

@@ -1,6 +1,5 @@
 -- `lexer::checked_word` meets its contract: the run of good bytes is the word, or its end is looked for once more.
 use mathlib.Core.Path.{sym, ap, _∙_}
-use Prim.Native.Nat.{_-_}
 use native.Mathlib.Omega.{arith}
 use borrow.Author.Needs.{needs}
 use Rattle.laws.proofs.RunLaws.{past-least, past-most}

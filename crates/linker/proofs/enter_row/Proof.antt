@@ -3,12 +3,6 @@ use borrow.Author.Needs.{needs}
 use Rattle.linker.proofs.enter_row.Statement.{statement}
 use Rattle.linker.proofs.enter_row.Tie as tie
 use Rattle.linker.proofs.enter_row.Reads as reads
-use Rattle.linker.proofs.enter_row.Lts as lts
-use Rattle.index.proofs.put.Reads as put-reads
-use Rattle.linker.proofs.earlier.Reads as earlier-reads
-use Rattle.linker.proofs.put_row.Reads as put-row-reads
-use Rattle.linker.proofs.tell_next.Reads as tell-next-reads
-use Rattle.statement.proofs.narrow.Reads as narrow-reads
 
 -- src/lib.rt:91:9
 returns : tie.Need-returns

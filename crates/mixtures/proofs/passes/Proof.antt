@@ -1,7 +1,6 @@
 -- `mixtures::passes` meets its contract.
-use mathlib.Core.Bool.{Bool, not}
+use mathlib.Core.Bool.{not}
 use mathlib.Core.Path.{ap, _∙_}
-use Prim.Native.Nat.{ℕ}
 use Rattle.graph.specs.Graph.{goesFrom}
 use Rattle.scene.specs.Types.{isMaterial}
 use Rattle.mixtures.proofs.passes.Statement.{statement}

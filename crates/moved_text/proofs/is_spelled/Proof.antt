@@ -1,8 +1,7 @@
 -- `moved_text::is_spelled` meets its contract.
 use mathlib.Core.Path.{_∙_}
 use Rattle.laws.specs.Bytes.{bytes, same}
-use Rattle.lexer.specs.Word.{wordBytes}
-use Rattle.lines.specs.Arguments.{behindWords}
+use Rattle.lexer.specs.Word.{behindWords, wordBytes}
 use Rattle.table.proofs.QuestionLaws.{name-field}
 use Rattle.moved_text.specs.MovedText.{spelledAt}
 use borrow.Author.Needs.{needs}

@@ -4,7 +4,7 @@ use mathlib.Core.Path.{ap, _∙_}
 use Prim.Native.Nat.{ℕ}
 use Rattle.laws.specs.Bytes.{bytes}
 use Rattle.lines.proofs.PutsLaws.{puts-as, puts-more}
-use Rattle.lines.specs.Arguments.{behindWords}
+use Rattle.lexer.specs.Word.{behindWords}
 use Rattle.record_text.specs.RecordText.{modifierWord}
 use Rattle.scene.specs.Record.{nameIn, recordIn}
 use Rattle.scene.specs.Told.{wordsFrom}

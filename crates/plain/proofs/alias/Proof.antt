@@ -1,4 +1,3 @@
-use mathlib.Core.Path.{sym, _∙_}
 use native.Mathlib.Omega.{arith}
 use borrow.Author.Tests.{not-false}
 use Rattle.word_scan.proofs.PassLaws.{line-most, not-good}

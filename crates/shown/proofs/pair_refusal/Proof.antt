@@ -1,7 +1,6 @@
 -- `shown::pair_refusal` meets its contract.
 use mathlib.Core.Path.{_∙_}
 use native.Mathlib.Omega.{arith}
-use borrow.Author.Needs.{needs}
 use Rattle.shown.proofs.FitLaws.{pairs-enough, pairs-short}
 use Rattle.shown.proofs.pair_refusal.Statement.{statement}
 use Rattle.shown.proofs.pair_refusal.Tie as tie

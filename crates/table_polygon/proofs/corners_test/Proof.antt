@@ -1,6 +1,5 @@
 -- `table_polygon::corners_test` meets its contract.
 use native.Mathlib.Omega.{arith}
-use borrow.Author.Needs.{needs}
 use Rattle.table_polygon.proofs.TableLaws.{corners-lent, corners-outside, type-other}
 use Rattle.table_polygon.proofs.corners_test.Statement.{statement}
 use Rattle.table_polygon.proofs.corners_test.Tie as tie

@@ -1,6 +1,6 @@
 -- `validation::loop_refusal` meets its contract.
-use mathlib.Core.Path.{_≡_, ap, sym, _∙_}
-use Prim.Native.Nat.{ℕ, _+_, _≤_}
+use mathlib.Core.Path.{_≡_, sym, _∙_}
+use Prim.Native.Nat.{ℕ, _+_}
 use native.Mathlib.Omega.{arith}
 use lib.ListN.{length, length-take, replicate, take}
 use Rattle.validation.proofs.ValidateLaws.{loop-found, no-loop}

@@ -1,5 +1,4 @@
 -- `validation::validate` meets its contract.
-use mathlib.Core.Path.{sym, subst}
 use Rattle.validation.proofs.ValidateLaws.{known-validates, plain-validates, unknown-validates}
 use borrow.Author.Needs.{needs}
 use Rattle.validation.proofs.validate.Statement.{statement}

@@ -1,5 +1,5 @@
 /* Kribbelsteen: a verified reader of Radiance scene texts, mixtures resolved, two saves compared, scenes written out, their glass moved,
- * ray hits, Fresnel values and panes of glass.
+ * scenes sorted, ray hits, Fresnel values and panes of glass.
  *
  * Link with libkribbelsteen.a. The functions keep nothing between calls, allocate nothing and may be called by several threads
  * at once, each on memory of its own.
@@ -62,7 +62,7 @@ enum kribbelsteen_pair_field {
 /* Why something is refused. */
 enum kribbelsteen_reason {
     KRIBBELSTEEN_ACCEPTED = 0,
-    /* kribbelsteen_read, _read_indexed, _read_both, _write and _move_glass; in brackets the place that is answered */
+    /* kribbelsteen_read, _read_indexed, _read_both, _write, _move_glass and _sort; in brackets the place that is answered */
     KRIBBELSTEEN_TEXT_TOO_LONG = 1,     /* text over 65,536 bytes (0) */
     KRIBBELSTEEN_BAD_BYTE = 2,          /* a word with a byte outside 33 to 126 (the word) */
     KRIBBELSTEEN_WORD_TOO_LONG = 3,     /* a word over 64 bytes (the word) */
@@ -90,9 +90,12 @@ enum kribbelsteen_reason {
     /* hits, kribbelsteen_fresnel, _pane_factors and _transmissivity */
     KRIBBELSTEEN_NOT_FINITE = 20,
     KRIBBELSTEEN_OUT_OF_RANGE = 21,
-    /* kribbelsteen_write and _move_glass */
+    /* kribbelsteen_write, _move_glass and _sort */
     KRIBBELSTEEN_TABLES_DIFFER = 22,    /* the tables are not those of the text (0) */
-    KRIBBELSTEEN_OUTPUT_TOO_SMALL = 23  /* the output is too small for the text (0); kribbelsteen_shown: the list is too short */
+    KRIBBELSTEEN_OUTPUT_TOO_SMALL = 23, /* the output is too small for the text (0); kribbelsteen_shown: the list is too short */
+    /* kribbelsteen_sort */
+    KRIBBELSTEEN_LAST_LINE_NOT_ENDED = 33, /* the text's last byte is not 10 (text length) */
+    KRIBBELSTEEN_TWO_ON_A_LINE = 34        /* a line has words of two statements (first word of the second) */
 };
 
 /* Where glass is moved to: forth to four reals, back to three. A direction is given by its number, and any number but 1 is forth. */
@@ -282,6 +285,31 @@ uint32_t kribbelsteen_write(uint32_t mode, const uint8_t *text, size_t text_len,
 uint32_t kribbelsteen_move_glass(uint32_t mode, uint32_t direction, const uint8_t *text, size_t text_len, const uint32_t *records,
                                  size_t records_len, const double *reals, size_t reals_len, uint8_t *out, size_t out_len,
                                  size_t answer[2]);
+
+/* Writes a scene's own bytes with its statements in another order, grouped by type as far as names allow. Nothing is tidied: each
+ * statement moves as a block of whole lines. A block ends with the line of its statement's last word and starts where the block before
+ * it ends, so comments and blank lines belong to the statement below them, and a comment behind a statement, on its last line, to that
+ * statement. What stands behind the last statement stays at the end. The sorted text has the length of the text, so an output of
+ * text_len bytes is enough.
+ *
+ * Two statements keep their order where they have the same name, surfaces counted too, or where one of them, which is no surface, has
+ * the name that the other refers to as its modifier or as its alias target; sides of mixtures do not count. A statement may come once
+ * all that stand before it in the text and keep their order with it have come. Of those that may, the next one is the first in the text
+ * of the type that came last, so that a type goes on as long as one of it may come; where there is none, the first of the least type
+ * number. The type is that of the record, so an alias has its target's.
+ *
+ * The sorted text is accepted in the same mode, at the same lengths of tables, every panel has the finish it had, all numbering aside,
+ * and a comparison of both texts shows no line. Sorting it gives it again.
+ *
+ * The tables may hold anything, as for kribbelsteen_write.
+ * Returns 0, or refuses: as kribbelsteen_write does up to 22; then 33, at the text's length, if its last line is not ended, that is if it
+ * has bytes and the last one is not 10; then 34 if a line has words of two statements, at the first word of the second of them, on the
+ * first such line; then 23 if the output is shorter than the text.
+ * answer: place of the refusal, bytes of the sorted text. A sorted scene has place 0, a refused one length 0.
+ * Takes up to about 300 KB of stack.
+ * Writes the output whole: bytes behind the text are 0, and on a refusal all are. The tables are not written. */
+uint32_t kribbelsteen_sort(uint32_t mode, const uint8_t *text, size_t text_len, const uint32_t *records, size_t records_len,
+                           const double *reals, size_t reals_len, uint8_t *out, size_t out_len, size_t answer[2]);
 
 /* The least distance of a hit that names none: what is not above it is no hit, so that a ray which leaves a panel does not hit it
  * again. A call that ends in _above takes a least distance by name; with 0 all that is ahead of the ray's origin counts. A larger

@@ -27,6 +27,7 @@ listing=$("$bin/list" <$scene)$'\n'
 finishes=$("$bin/finishes" <$scene)$'\n'
 shows=$("$bin/shows" <$scene)$'\n'
 tidy=$("$bin/tidy" <$scene)$'\n'
+sorted=$("$bin/sort" <$scene)$'\n'
 printf 'void glass clear 0 0 3 .9 .9 .9 void glass grey 0 0 4 .5 .5 .5 1.52\n' >"$scratch/panes"
 panes=$'void glass clear\n0\n0\n4 .9 .9 .9 1.52\nvoid glass grey\n0\n0\n4 .5 .5 .5 1.52\n'
 bare=$'void glass clear\n0\n0\n3 .9 .9 .9\nvoid glass grey\n0\n0\n3 .5 .5 .5\n'
@@ -41,6 +42,7 @@ expect '$bin/list $scene' "$listing" ''
 expect '$bin/finishes $scene' "$finishes" ''
 expect '$bin/shows $scene' "$shows" ''
 expect '$bin/tidy $scene' "$tidy" ''
+expect '$bin/sort $scene' "$sorted" ''
 
 # Glass is moved, and a scene without it is tidy.
 for direction in forth back; do
@@ -55,14 +57,26 @@ expect '$bin/list $scene $scene' "scene=$scene"$'\n'"${listing}scene=$scene"$'\n
 expect '$bin/finishes $scene $scene' "scene=$scene"$'\n'"${finishes}scene=$scene"$'\n'"$finishes" ''
 expect '$bin/shows $scene $scene' "scene=$scene"$'\n'"${shows}scene=$scene"$'\n'"$shows" ''
 expect '$bin/tidy $scene $scene' "scene=$scene"$'\n'"${tidy}scene=$scene"$'\n'"$tidy" ''
+expect '$bin/sort $scene $scene' "scene=$scene"$'\n'"${sorted}scene=$scene"$'\n'"$sorted" ''
 expect '$bin/glass forth $scene $scene' "scene=$scene"$'\n'"${tidy}scene=$scene"$'\n'"$tidy" ''
+
+# A sorted scene compares as the same, is sorted, and shows the same in other places. What cannot be sorted is said on standard error too.
+printf '%s' "$sorted" >"$scratch/sorted"
+printf 'void light bulb 0 0 3 1 1 1' >"$scratch/open"
+printf 'void light bulb 0 0 3 1 1 1 bulb\nsphere s 0 0 4 0 0 0 1\n' >"$scratch/shared"
+expect '$bin/compare $scene $scratch/sorted' '' ''
+expect '$bin/sort $scratch/sorted' "$sorted" ''
+expect 'sort $scratch/sorted' "$(sort $scene)"$'\n' ''
+expect '$bin/sort $scratch/open' $'refused=33 place=27 line=1\n' "scene=$scratch/open refused=33 place=27 line=1"$'\n'
+expect '$bin/sort <$scratch/shared' $'refused=34 place=28 line=1\n' $'refused=34 place=28 line=1\n'
+expect '$bin/sort <$scratch/fits' $'refused=33 place=65536 line=1\n' $'refused=33 place=65536 line=1\n'
 
 # A read that fails is no empty scene.
 for program in list finishes shows words numerals rays; do
     expect '$bin/$program <$scratch' $'unreadable\n' ''
     expect '$bin/$program <&-' $'unreadable\n' ''
 done
-for program in tidy 'glass forth'; do
+for program in tidy sort 'glass forth'; do
     expect '$bin/$program <$scratch' $'unreadable\n' $'unreadable\n'
     expect '$bin/$program <&-' $'unreadable\n' $'unreadable\n'
 done
@@ -71,7 +85,7 @@ for program in list finishes shows; do
     expect '$bin/$program missing' $'scene=missing unreadable\n' ''
     expect '$bin/$program ""' $'scene= unreadable\n' ''
 done
-for program in tidy 'glass forth'; do
+for program in tidy sort 'glass forth'; do
     expect '$bin/$program missing' $'scene=missing unreadable\n' $'scene=missing unreadable\n'
 done
 expect '$bin/list missing $scene' $'scene=missing unreadable\n'"scene=$scene"$'\n'"$listing" ''
@@ -89,12 +103,12 @@ expect '$bin/finishes <$scratch/long' $'refused=1 place=0 line=1\n' ''
 expect '$bin/shows <$scratch/fits' '' ''
 expect '$bin/shows <$scratch/long' $'refused=1 place=0 line=1\n' ''
 expect '$bin/shows $scratch/long' $'refused=1 place=0 line=1\n' ''
-for program in tidy 'glass forth'; do
+for program in tidy sort 'glass forth'; do
     expect '$bin/$program <$scratch/long' $'refused=1 place=0 line=1\n' $'refused=1 place=0 line=1\n'
 done
 
-# A refusal is told from a tidy text by standard error.
-for program in tidy 'glass forth'; do
+# A refusal is told from a scene by standard error.
+for program in tidy sort 'glass forth'; do
     expect '$bin/$program <$scratch/refused' $'refused=7 place=8 line=3\n' $'refused=7 place=8 line=3\n'
     expect '$bin/$program $scratch/refused' $'refused=7 place=8 line=3\n' "scene=$scratch/refused refused=7 place=8 line=3"$'\n'
     expect '$bin/$program <$scratch/loop' $'refused=26 place=41 line=2\n' $'refused=26 place=41 line=2\n'
@@ -109,15 +123,15 @@ expect '$bin/list <$scratch/loop' $'refused=26 place=41\n' ''
 expect '$bin/compare $scene $scratch/loop' $'scene=right refused=26 place=41\n' ''
 
 # A write that fails is said once, and is the last. A file that is opened may get the number of a closed standard output.
-for program in list finishes shows tidy 'glass forth' words numerals; do
+for program in list finishes shows tidy sort 'glass forth' words numerals; do
     expect '$bin/$program <$scene >/dev/full' '' "$full"
     expect '$bin/$program <$scene >&-' '' $'standard output: Bad file descriptor\n'
 done
-for program in list finishes shows tidy 'glass forth'; do
+for program in list finishes shows tidy sort 'glass forth'; do
     expect '$bin/$program $scene $scene >/dev/full' '' "$full"
     expect '$bin/$program $scene $scene >&-' '' $'standard output: Bad file descriptor\n'
 done
-for program in list finishes shows tidy; do
+for program in list finishes shows tidy sort; do
     # An option that is unknown, or stands behind a file, is refused before anything is done.
     for arguments in '-x $scene' '$scene -' '--archiv $scene' '--archives $scene' '$scene --archive' '--archive --archive $scene' '--archive -x'; do
         expect '$bin/$program '"$arguments" "usage: $program [--archive] [FILE..]"$'\n' ''
@@ -170,6 +184,8 @@ expect '$bin/shows --archive <$old' "$old_shows" ''
 expect '$bin/shows --archive $scene' "$shows" ''
 expect '$bin/shows --archive $scene $old' "scene=$scene"$'\n'"${shows}scene=$old"$'\n'"$old_shows" ''
 expect '$bin/tidy <$old' "$retired" "$retired"
+expect '$bin/sort <$old' "$retired" "$retired"
+expect '$bin/sort --archive <$old | $bin/compare --archive $old /dev/stdin' '' ''
 expect '$bin/glass forth <$old' "$retired" "$retired"
 for program in 'tidy --archive' 'glass --archive forth'; do
     expect '$bin/$program <$scene' "$tidy" ''

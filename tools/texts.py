@@ -2,7 +2,8 @@
 """Scene texts to try a reader on, valid and damaged, made from a seed: texts(seed, count, most) yields
 (archive, text, record_room, real_room), half of them for the archive reading, with at most so many statements each, a quarter of them
 mostly mixtures. Every reason for refusing turns up among them, 6 and 13 by the smaller rooms, but not 1. Some statements are glass, with
-three reals or with four, of which the last is often spelled `1.52` or nearly so.
+three reals or with four, of which the last is often spelled `1.52` or nearly so. lined_texts(seed, count, most) yields (archive, text)
+with few types in each text and, mostly, each statement on lines of its own, so that sort can cut it into blocks.
 
     tools/texts.py NAME      writes a text at or just past a limit of document 01: see limits; or a stored one of two saves that
                              have no name in common, left or right"""
@@ -146,6 +147,50 @@ def text(rng, archive, most):
     return out
 
 
+def scene_of_few_types(rng, archive, most):
+    """Up to so many statements of few types, most of them accepted; names come again, those of finishes as surfaces' too."""
+    modifiers = [kind for kind in (scene.TYPES if archive else NEW_TYPES) if kind not in SURFACES]
+    kinds = rng.sample(SURFACES, rng.choice([1, 2, 3])) + rng.sample(modifiers, rng.choice([1, 2, 3])) + ["alias"]
+    statements, names = [], []
+    for _ in range(rng.randrange(most + 1)):
+        words = statement(rng, archive, names)
+        while words[1] not in kinds:
+            words = statement(rng, archive, names)
+        if words[1] not in SURFACES:
+            names.append(words[2])
+        statements.append(words)
+    return statements
+
+
+NOTES = [b"# note \xff!\n", b"\n", b"  \t\n", b"#\n", b"\t# void sphere s 0 0 4\r\n"]
+LINE_ENDS = [b"\n", b"\n", b"\n", b" \t\n", b"\r\n", b" # behind\n", b"\t#void\x00\n", b"\n\n"]
+NO_LINE_ENDS = [b" ", b"\r", b"\x0b", b" # behind\r"]
+
+
+def lined(rng, archive, most):
+    """A text with each statement on lines of its own, below comments and blank lines. Now and then a statement begins on the line of
+    another one or in the comment behind it, the last line is not ended, or a word is spoiled."""
+    statements = scene_of_mixtures(rng, most) if rng.random() < 0.25 else scene_of_few_types(rng, archive, most)
+    if statements and rng.random() < 0.1:
+        spoil(rng, rng.choice(statements))
+    crowded = rng.randrange(len(statements)) if statements and rng.random() < 0.15 else None
+    out = b""
+    for number, words in enumerate(statements):
+        out += b"".join(rng.choices(NOTES, k=rng.choice([0, 0, 0, 1, 2])))
+        spelled = [w.encode("latin-1") + rng.choice([b" "] * 9 + [b"\n", b"\t", b"  ", b"\r\n", b"\x0c"]) for w in words[:-1]]
+        out += b"".join(spelled) + words[-1].encode("latin-1")
+        out += rng.choice(NO_LINE_ENDS if number == crowded else LINE_ENDS)
+    out += b"".join(rng.choices(NOTES, k=rng.choice([0, 0, 1])))
+    return out[:-1] if rng.random() < 0.05 else out
+
+
+def lined_texts(seed, count, most):
+    rng = random.Random(seed)
+    for _ in range(count):
+        archive = rng.random() < 0.5
+        yield archive, lined(rng, archive, most)
+
+
 def texts(seed, count, most):
     rng = random.Random(seed)
     for _ in range(count):
@@ -183,6 +228,13 @@ def panes():
     """Accepted texts whose glass, moved forth, just meets a limit or is just past it: of bytes, and of reals."""
     room = 65536 - len(PANE) - len(b" 1.52") - 1
     return [PANE + packed(room), PANE + packed(room + 1), PANE + sized(reals=4092), PANE + sized(reals=4093)]
+
+
+def lamps(size):
+    """An accepted text of so many bytes, which a comment makes up, and of as many primitives as there may be: a light above each sphere
+    that has it, where sorting brings all lights above all spheres."""
+    out = b"".join(b"void light l%d 0 0 3 1 1 1\nl%d sphere s 0 0 4 0 0 0 1\n" % (n, n) for n in range(512))
+    return out + b"#" * (size - len(out) - 1) + b"\n"
 
 
 def named(first, count):

@@ -10,5 +10,6 @@ pub mod random;
 pub mod rays;
 pub mod saves;
 pub mod scene;
+pub mod sort;
 pub mod tidy;
 pub mod tuned;

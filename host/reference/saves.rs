@@ -37,7 +37,7 @@ pub struct Save<'s> {
 }
 
 /// A name, and which definition of it, from 1.
-type Key<'s> = (&'s [u8], usize);
+pub type Key<'s> = (&'s [u8], usize);
 
 /// What makes two primitives the same.
 #[derive(PartialEq)]
@@ -67,7 +67,8 @@ fn bits(x: f64) -> u64 {
 }
 
 impl<'s> Save<'s> {
-    fn keys(self) -> Vec<Key<'s>> {
+    /// The key of each number.
+    pub fn keys(self) -> Vec<Key<'s>> {
         let mut times = BTreeMap::new();
         let names = self.records.chunks_exact(RECORD).map(|r| part(self.text, r[3] as usize, r[4] as usize));
         names

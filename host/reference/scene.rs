@@ -152,6 +152,11 @@ enum Kind {
     Mixfunc,
 }
 
+/// The number of a type's word.
+pub fn type_number(word: &[u8]) -> Option<u32> {
+    Kind::from_word(word).map(|kind| kind as u32)
+}
+
 pub fn is_surface(kind: u32) -> bool {
     (1..=9).contains(&kind)
 }

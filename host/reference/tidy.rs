@@ -10,20 +10,25 @@ const TABLES_DIFFER: Refused = Refused { reason: 22, place: 0 };
 const OUTPUT_TOO_SMALL: Refused = Refused { reason: 23, place: 0 };
 
 /// The words of an accepted text, statement by statement.
-struct Words<'t> {
+pub struct Words<'t> {
     text: &'t [u8],
-    at: usize,
+    /// The place behind the last word that was given.
+    pub at: usize,
 }
 
 impl<'t> Words<'t> {
-    fn next(&mut self) -> &'t [u8] {
+    pub fn new(text: &'t [u8]) -> Self {
+        Words { text, at: 0 }
+    }
+
+    pub fn next(&mut self) -> &'t [u8] {
         let (place, len) = next_word(self.text, self.at);
         self.at = place + len;
         &self.text[place..self.at]
     }
 
     /// The next statement's first word, empty at the end.
-    fn opening(&mut self) -> &'t [u8] {
+    pub fn opening(&mut self) -> &'t [u8] {
         loop {
             let word = self.next();
             if !word.starts_with(b"#") {
@@ -35,7 +40,7 @@ impl<'t> Words<'t> {
     }
 
     /// A count and as many words, as they are to stand in a line.
-    fn counted(&mut self) -> Line {
+    pub fn counted(&mut self) -> Line {
         let digits = std::str::from_utf8(self.next()).expect("a count has digits");
         let count: usize = digits.parse().expect("a count is a number");
         let mut line = vec![count.to_string().into_bytes()];
@@ -46,7 +51,7 @@ impl<'t> Words<'t> {
 
 /// The lines of each statement of an accepted text: one of an alias, four of a primitive.
 pub fn statements(text: &[u8]) -> Vec<Vec<Line>> {
-    let mut words = Words { text, at: 0 };
+    let mut words = Words::new(text);
     let mut statements = Vec::new();
     loop {
         let modifier = words.opening();

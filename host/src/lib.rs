@@ -1,7 +1,7 @@
 //! Kribbelsteen for Rust: reads Radiance scene texts into tables that the caller lends, walks from a panel to its finish or to every
-//! material that it may show, compares two saves of a scene, writes a scene out tidy, moves its glass, and works out ray hits, Fresnel
-//! values and panes of glass. The work is done by a library that is proved to meet its contracts; this package only gives its numbers
-//! their Rust forms.
+//! material that it may show, compares two saves of a scene, writes a scene out tidy, moves its glass, sorts its statements, and works out
+//! ray hits, Fresnel values and panes of glass. The work is done by a library that is proved to meet its contracts; this package only
+//! gives its numbers their Rust forms.
 //!
 //! ```
 //! use kribbelsteen::{Mode, Scene, PAIR, RECORD};
@@ -45,7 +45,7 @@ pub use reading::{read, read_indexed, Counts, Indexed, Mode, Pair, Primitive, Re
 pub use saves::{compare, read_both, Line, Lines, SaveRefusal, Saves, Side, State};
 pub use types::Type;
 pub use words::{next_word, words, Word, Words};
-pub use writing::{move_glass, write, Direction, Unwritten};
+pub use writing::{move_glass, sort, write, Direction, Unwritten};
 
 /// The longest text that is read, in bytes.
 pub const MOST_BYTES: usize = 65_536;

@@ -145,6 +145,18 @@ extern "C" {
         out_len: usize,
         answer: *mut usize,
     ) -> u32;
+    fn kribbelsteen_sort(
+        mode: u32,
+        text: *const u8,
+        text_len: usize,
+        records: *const u32,
+        records_len: usize,
+        reals: *const f64,
+        reals_len: usize,
+        out: *mut u8,
+        out_len: usize,
+        answer: *mut usize,
+    ) -> u32;
     fn kribbelsteen_sphere(ray: *const f64, sphere: *const f64, answer: *mut f64) -> u32;
     fn kribbelsteen_sphere_above(ray: *const f64, sphere: *const f64, least: f64, answer: *mut f64) -> u32;
     fn kribbelsteen_ring(ray: *const f64, ring: *const f64, answer: *mut f64) -> u32;
@@ -450,6 +462,27 @@ pub fn move_glass(
         kribbelsteen_move_glass(
             mode,
             direction,
+            text.as_ptr(),
+            text.len(),
+            records.as_ptr(),
+            records.len(),
+            reals.as_ptr(),
+            reals.len(),
+            out.as_mut_ptr(),
+            out.len(),
+            answer.as_mut_ptr(),
+        )
+    };
+    (reason, answer)
+}
+
+/// Writes a scene out with its statements sorted: as for `write`.
+pub fn sort(mode: u32, text: &[u8], records: &[u32], reals: &[f64], out: &mut [u8]) -> (u32, [usize; 2]) {
+    let mut answer = [usize::MAX; 2];
+    // SAFETY: each pointer and length is that of a slice, the answer has two entries, and the borrows keep what is written apart.
+    let reason = unsafe {
+        kribbelsteen_sort(
+            mode,
             text.as_ptr(),
             text.len(),
             records.as_ptr(),

@@ -353,6 +353,12 @@ impl<'s> Scene<'s> {
         writing::move_glass(self.mode, direction, self.text, self.records, self.lent_reals, out)
     }
 
+    /// Writes the scene's own bytes with its statements sorted into a lent output, as [`sort`](crate::sort) does in the mode of its
+    /// reading.
+    pub fn sort<'o>(&self, out: &'o mut [u8]) -> Result<&'o [u8], Unwritten> {
+        writing::sort(self.mode, self.text, self.records, self.reals, out)
+    }
+
     /// The primitive of a number, from 1.
     pub fn primitive(&self, number: usize) -> Option<Primitive<'s>> {
         let record = self.records.chunks_exact(RECORD).nth(number.checked_sub(1)?)?;

@@ -101,6 +101,31 @@ void glass grey
 0
 3 .5 .5 .5
 moved=23 place=0 length=0
+sorted=0 place=0 length=149
+# a lamp before a wall
+void plastic wall 0 0 5 .5 .5 .5 0 0
+void plastic wall 0 0 5 .2 .2 .2 0 0
+void alias trim wall
+wall sphere lamp 0 0 4 0 0 0 1
+sorted=22 place=0 length=0
+sorted=0 place=0 length=202
+void plastic oak 0 0 5 .5 .4 .2 0 0
+void plastic ash 0 0 5 .7 .6 .5 0 0
+oak mixfunc inlay 4 void ash v f.cal 0 0
+void alias border inlay
+border sphere knob 0 0 4 0 0 0 1
+inlay sphere foot 0 0 4 0 0 0 1
+sorted=22 place=0 length=0
+sorted=23 place=0 length=0
+sorted=22 place=0 length=0
+sorted=33 place=38 length=0
+cannot be cut
+sorted=22 place=0 length=0
+sorted=34 place=28 length=0
+cannot be cut
+sorted=22 place=0 length=0
+sorted=5 place=4 length=0
+sorted=5 place=4 length=0
 word 1 4
 word 6 5
 word 12 0

@@ -12,9 +12,9 @@ use kribbelsteen::raw;
 use made::{floats, numerals, scenes};
 use reference::index::{self, INDEX};
 use reference::random::Random;
-use reference::saves::{Comparison, Save};
+use reference::saves::{Comparison, Key, Save};
 use reference::scene::{pairs_needed, Counts, Refused, PAIR, RECORD};
-use reference::{glass, mixtures, rays, saves, scene, tidy, tuned};
+use reference::{glass, mixtures, rays, saves, scene, sort, tidy, tuned};
 use std::collections::BTreeMap;
 use std::fmt::Debug;
 use std::io::Write;
@@ -1295,6 +1295,220 @@ fn no_more_reals_than_a_scene_has_are_moved() {
         assert_eq!(compare_moving(FORTH, source, scene::MOST_BYTES).0, expected);
         assert_eq!(compare_moving(BACK, source, scene::MOST_BYTES).0, 0);
     }
+}
+
+// ---- scenes sorted
+
+/// Sorts a scene both ways, and gives the reason and the sorted text.
+fn compare_sorting(source: Source, room: usize) -> (u32, Vec<u8>) {
+    let Source { mode, text, records, reals } = source;
+    let call = |records: &[u32], reals: &[f64], out: &mut [u8]| raw::sort(mode, text, records, reals, out);
+    let expected = sort::write(mode == 1, text, records, reals, room);
+    compare_output("sorted", source, room, call, expected)
+}
+
+/// What each key leads to: the keys of its finish and of its sides.
+fn led_to<'s>(save: Save<'s>, pairs: &[u32]) -> BTreeMap<Key<'s>, [Option<Key<'s>>; 3]> {
+    let keys = save.keys();
+    let key = |number: usize| number.checked_sub(1).map(|at| keys[at]);
+    let led_to = |number: usize| {
+        let (reason, [material, _]) = raw::finish(save.records, keys.len(), number, number);
+        assert_eq!(reason, 0, "the finish of {number} in {:?}", save.records);
+        let [foreground, background] = [0, 1].map(|side| pairs[PAIR * (number - 1) + side] as usize);
+        [material, foreground, background].map(key)
+    };
+    keys.iter().copied().zip((1..).map(led_to)).collect()
+}
+
+/// A sorted text is read into tables of the same lengths, with the same counts; no line tells it from the text, and finishes and sides
+/// are the same but for numbers; and it is its own sorted text.
+fn read_sorted(source: Source, pairs: &[u32], [primitives, used]: [usize; 2], sorted: &[u8]) {
+    let Source { mode, text, records, reals } = source;
+    let shown = || format!("{:?}, sorted {:?}", String::from_utf8_lossy(text), String::from_utf8_lossy(sorted));
+    let (mut again, mut doubles) = (vec![1; records.len()], vec![1.0; reals.len()]);
+    let mut sides = vec![1; pairs.len()];
+    let read = raw::read(mode, sorted, &mut again, &mut doubles, &mut sides);
+    assert_eq!(read, (0, [0, primitives, used]), "{}", shown());
+    let left = Save { text, records: &records[..RECORD * primitives], reals: &reals[..used] };
+    let right = Save { text: sorted, records: &again[..RECORD * primitives], reals: &doubles[..used] };
+    let mut line = [0; 4];
+    let found = raw::next_line(left.text, left.records, left.reals, right.text, right.records, right.reals, &mut line);
+    assert_eq!((found, line, Comparison::new(left, right).len()), (0, [0; 4], 0), "{}", shown());
+    assert_eq!(led_to(left, pairs), led_to(right, &sides), "{}", shown());
+    let own = Source { mode, text: sorted, records: &again, reals: &doubles };
+    assert_eq!(compare_sorting(own, sorted.len()), (0, sorted.to_vec()), "{}", shown());
+}
+
+#[test]
+fn scenes_are_sorted_alike() {
+    let mut random = random(22);
+    let mut tally = Tally::new("scenes sorted");
+    let (mut accepted, mut cut, mut changed) = (0, 0, 0);
+    for _ in 0..scene_count() / 4 {
+        let case = if random.percent(75) { scenes::lined(&mut random) } else { scenes::case(&mut random) };
+        let (mut records, mut reals) = (vec![1; case.records], vec![1.0; case.reals]);
+        let mut pairs = vec![1; pairs_needed(case.records)];
+        let read = expected_read(case.is_archive(), &case.text, &mut records, &mut reals, &mut pairs);
+        let (mode, text) = (case.mode, case.text.as_slice());
+        let source = Source { mode, text, records: &records, reals: &reals };
+        let (reason, sorted) = compare_sorting(source, text.len());
+        tally.add(reason);
+        let [_, primitives, used] = read.answer;
+        if read.reason == 0 {
+            accepted += 1;
+            let whole = Source { records: &records[..RECORD * primitives], reals: &reals[..used], ..source };
+            assert_eq!(compare_sorting(whole, text.len()), (reason, sorted.clone()));
+            let len = text.len();
+            for room in [len + 1 + random.below(40), len.saturating_sub(1), random.below(len + 1), 0] {
+                tally.add(compare_sorting(source, room).0);
+            }
+        }
+        if reason == 0 {
+            read_sorted(source, &pairs, [primitives, used], &sorted);
+            cut += 1;
+            changed += usize::from(sorted != text);
+        }
+        let (records, reals) = tampered(&mut random, &records, &reals);
+        tally.add(compare_sorting(Source { mode, text, records: &records, reals: &reals }, text.len()).0);
+    }
+    tally.report(reasons().filter(|&reason| reason != 1).chain([22, 23, 33, 34]), 10_000);
+    say(&format!(
+        "scenes accepted that were to be sorted: {accepted}, of which {cut} were, {changed} into another text"
+    ));
+    assert!(accepted < 1_000 || 3 * cut > accepted && 3 * changed > cut, "too few texts are sorted");
+}
+
+/// The sorted text of an accepted text, or the refusal, in an output as long as the text.
+fn sorted_whole(text: &[u8]) -> Result<Vec<u8>, Refused> {
+    let (records, reals) = tables_of(0, text, 0);
+    let source = Source { mode: 0, text, records: &records, reals: &reals };
+    compare_sorting(source, text.len());
+    sort::write(false, text, &records, &reals, text.len())
+}
+
+/// Statements, one on a line, and by their numbers the order in which they come.
+const ORDERS: [(&[&str], &[usize]); 13] = [
+    // The least type comes first, and of one type the first in the text
+    (&["void light l 0 0 3 1 1 1", "void sphere s 0 0 4 0 0 0 1", "void light m 0 0 3 1 1 1"], &[2, 1, 3]),
+    // A modifier stays above what it is the modifier of, and a type goes on before a lesser one comes
+    (&["void light l 0 0 3 1 1 1", "l sphere s 0 0 4 0 0 0 1", "void light m 0 0 3 1 1 1"], &[1, 3, 2]),
+    (
+        &[
+            "void plastic p 0 0 5 1 1 1 0 0",
+            "p sphere s 0 0 4 0 0 0 1",
+            "void light l 0 0 3 1 1 1",
+            "l sphere t 0 0 4 0 0 0 1",
+        ],
+        &[3, 4, 1, 2],
+    ),
+    // A definition stays between what refers to the one before it and what refers to it
+    (
+        &[
+            "void plastic a 0 0 5 1 1 1 0 0",
+            "a sphere s 0 0 4 0 0 0 1",
+            "void plastic a 0 0 5 1 1 1 0 0",
+            "a sphere t 0 0 4 0 0 0 1",
+        ],
+        &[1, 2, 3, 4],
+    ),
+    // Statements of one name stay in order, surfaces too; but a surface is not held with what has its name as a modifier
+    (&["void ring a 0 0 8 0 0 0 0 0 1 0 1", "void sphere a 0 0 4 0 0 0 1"], &[1, 2]),
+    (&["void light a 0 0 3 1 1 1", "void ring a 0 0 8 0 0 0 0 0 1 0 1", "a sphere s 0 0 4 0 0 0 1"], &[1, 3, 2]),
+    (&["void ring a 0 0 8 0 0 0 0 0 1 0 1", "void sphere s 0 0 4 0 0 0 1", "void light a 0 0 3 1 1 1"], &[2, 1, 3]),
+    // An alias has its target's type and stays below it, and what refers to the alias below that
+    (
+        &[
+            "void plastic p 0 0 5 1 1 1 0 0",
+            "void light l 0 0 3 1 1 1",
+            "void alias q p",
+            "void alias k l",
+            "k sphere s 0 0 4 0 0 0 1",
+        ],
+        &[2, 4, 5, 1, 3],
+    ),
+    (&["void plastic p 0 0 5 1 1 1 0 0", "p light l 0 0 3 1 1 1", "void alias k l"], &[1, 2, 3]),
+    // And above a later definition of its target's name
+    (
+        &["void light l 0 0 3 1 1 1", "void plastic p 0 0 5 1 1 1 0 0", "p alias k l", "void light l 0 0 3 1 1 1"],
+        &[1, 2, 3, 4],
+    ),
+    (&["void light p 0 0 3 1 1 1", "p alias p p", "p alias p p", "void sphere s 0 0 4 0 0 0 1"], &[4, 1, 2, 3]),
+    // Sides of mixtures hold nothing, and neither do other strings
+    (&["void mixfunc m 4 p void v f 0 0", "void plastic p 0 0 5 1 1 1 0 0"], &[2, 1]),
+    (&["void mirror m 1 p 0 3 1 1 1", "void light p 0 0 3 1 1 1", "void light v 0 0 3 1 1 1"], &[2, 3, 1]),
+];
+
+#[test]
+fn statements_come_in_order_alike() {
+    for (lines, order) in ORDERS {
+        // With a comment above and one behind, which go along
+        let block = |number: usize| format!("# {number}\n\n {} # behind {number}\n", lines[number - 1]);
+        let text: String = (1..=lines.len()).map(block).chain(["#\n".to_owned()]).collect();
+        let sorted: String = order.iter().copied().map(block).chain(["#\n".to_owned()]).collect();
+        assert_eq!(sorted_whole(text.as_bytes()), Ok(sorted.into_bytes()), "{text:?}");
+    }
+}
+
+/// Where lines end decides which texts can be cut.
+#[test]
+fn texts_are_cut_alike() {
+    let refused = |reason, place| Err(Refused { reason, place });
+    for text in ["", "\n", "# note\n", "void light l 0 0 3 1 1 1\n", "\n\nvoid\nlight\nl\n0\n0\n3\n1 1 1 #\n \n"] {
+        assert_eq!(sorted_whole(text.as_bytes()), Ok(text.as_bytes().to_vec()), "{text:?}");
+    }
+    for text in [" ", "\n#", "\n\r", "void light l 0 0 3 1 1 1", "void alias a l\n# note"] {
+        let text = ["void light l 0 0 3 1 1 1\n", text].concat();
+        assert_eq!(sorted_whole(text.as_bytes()), refused(33, text.len()), "{text:?}");
+    }
+    // Only byte 10 ends a line. The first crowded line is told, wherever on it its statements begin and end
+    for between in [" ", "\t", "\r", "\x0b", "\x0c", " \r "] {
+        let text = ["void light l 0 0 3 1 1 1", between, "void light m 0 0 3 1 1 1 l alias k l\n"].concat();
+        assert_eq!(sorted_whole(text.as_bytes()), refused(34, 24 + between.len()), "{text:?}");
+        assert_eq!(sorted_whole(text.trim_end().as_bytes()), refused(33, text.len() - 1), "{text:?}");
+    }
+    let above = "void light l 0 0 3 1 1 1 # one\nvoid light\nm 0 0 3 1 1\n1 ";
+    let text = [above, "void\nalias k m\n"].concat();
+    assert_eq!(sorted_whole(text.as_bytes()), refused(34, above.len()));
+}
+
+/// Of several reasons the first in the order of the header is given.
+#[test]
+fn refusals_of_sorting_come_in_order() {
+    let ended = b"void light l 0 0 3 1 1 1\nvoid alias k l\n".as_slice();
+    let crowded = b"void light l 0 0 3 1 1 1 void alias k l\n".as_slice();
+    let all = b"void light l 0 0 3 1 1 1 void alias k l".as_slice();
+    for (text, cut) in [(ended, 0), (crowded, 34), (all, 33)] {
+        let (records, reals) = tables_of(0, text, 1);
+        let source = Source { mode: 0, text, records: &records, reals: &reals };
+        let reason = |source, room| compare_sorting(source, room).0;
+        assert_eq!([text.len() + 1, text.len()].map(|room| reason(source, room)), [cut; 2]);
+        assert_eq!([text.len() - 1, 0].map(|room| reason(source, room)), [if cut == 0 { 23 } else { cut }; 2]);
+        let mut other = reals.clone();
+        other[3] = -0.0;
+        assert_eq!(reason(Source { reals: &other, ..source }, 0), 22);
+        assert_eq!(reason(Source { reals: &other[..2], ..source }, 0), 13);
+        assert_eq!(reason(Source { text: &text[..text.len() - 2], reals: &other, ..source }, 0), 5);
+    }
+}
+
+/// The longest text and the most primitives, lights and spheres by turns; and as many that all stay where they are.
+#[test]
+fn large_texts_are_sorted_alike() {
+    let most = scene::MOST_RECORDS;
+    let lamp = |n: usize| format!("void light l{n} 0 0 3 1 1 1\n");
+    let bulb = |n: usize| format!("l{n} sphere s{n} 0 0 4 0 0 0 1\n");
+    let numbers = || 1..=most / 2;
+    let text: String = numbers().flat_map(|n| [lamp(n), bulb(n)]).collect();
+    let sorted: String = numbers().map(lamp).chain(numbers().map(bulb)).collect();
+    let note = format!("#{}\n", "-".repeat(scene::MOST_BYTES - text.len() - 2));
+    let [text, sorted] = [text, sorted].map(|text| [text, note.clone()].concat().into_bytes());
+    assert_eq!((text.len(), tables_of(0, &text, 0).0.len()), (scene::MOST_BYTES, RECORD * most));
+    assert_eq!(sorted_whole(&text), Ok(sorted));
+    assert_eq!(sorted_whole(&full(most)), Ok(full(most)));
+    let (records, reals) = (vec![0; RECORD * most], vec![0.0; scene::MOST_REALS]);
+    let long = [text.as_slice(), b"\n"].concat();
+    let source = Source { mode: 0, text: &long, records: &records, reals: &reals };
+    assert_eq!(compare_sorting(source, long.len()).0, 1);
 }
 
 // ---- words

@@ -1,5 +1,5 @@
 /* A host program in C: reads a small scene, and prints its names, its finishes, its index, what its mixtures show, what is new in a
- * later save, its tidy text and a few float answers. */
+ * later save, its tidy text, its glass moved, its sorted text and a few float answers. */
 #include "kribbelsteen.h"
 
 #include <math.h>
@@ -131,6 +131,22 @@ static void print_moved(uint32_t direction, const char *scene, size_t real_room,
     printf("moved=%u place=%zu length=%zu\n%.*s", (unsigned)reason, answer[0], answer[1], (int)answer[1], (const char *)out);
 }
 
+static void print_sorted(const char *scene, size_t room) {
+    static uint8_t out[512];
+    const uint8_t *text = (const uint8_t *)scene;
+    size_t len = strlen(scene), counts[3], answer[2];
+    uint32_t reason;
+    kribbelsteen_read(KRIBBELSTEEN_NEW, text, len, records, ROOM * KRIBBELSTEEN_RECORD, reals, 32, pairs, ROOM * KRIBBELSTEEN_PAIR,
+                      counts);
+    reason = kribbelsteen_sort(KRIBBELSTEEN_NEW, text, len, records, ROOM * KRIBBELSTEEN_RECORD, reals, 32, out, room, answer);
+    printf("sorted=%u place=%zu length=%zu\n%.*s", (unsigned)reason, answer[0], answer[1], (int)answer[1], (const char *)out);
+    if (reason == KRIBBELSTEEN_LAST_LINE_NOT_ENDED || reason == KRIBBELSTEEN_TWO_ON_A_LINE)
+        printf("cannot be cut\n");
+    reals[31] = -0.0;
+    reason = kribbelsteen_sort(KRIBBELSTEEN_NEW, text, len, records, ROOM * KRIBBELSTEEN_RECORD, reals, 32, out, room, answer);
+    printf("sorted=%u place=%zu length=%zu\n", (unsigned)reason, answer[0], answer[1]);
+}
+
 static void print_words(const char *text) {
     size_t at = 0, word[2];
     for (;;) {
@@ -252,6 +268,12 @@ int main(void) {
     print_moved(2, panes, 7, 512);
     print_moved(KRIBBELSTEEN_BACK, panes, 7, 512);
     print_moved(KRIBBELSTEEN_BACK, panes, 7, 16);
+    print_sorted(sample, 512);
+    print_sorted(mixed, strlen(mixed));
+    print_sorted(mixed, strlen(mixed) - 1);
+    print_sorted("void light bulb 0 0 3 1 1 1\n\n# the end", 512);
+    print_sorted("void light bulb 0 0 3 1 1 1\rvoid alias lamp bulb\n", 512);
+    print_sorted("void", 512);
     print_words(" void\tlight ");
     print_floats();
     print_screen("void plastic trim 0 0 5 .2 .2 .2 0 0\n"

@@ -205,7 +205,7 @@ fn numbers_and_reasons_agree() {
     for number in (1..=16).filter(|number| *number != 11).chain(24..=28) {
         assert_eq!(Reason::from_number(number).map(Reason::number), Some(number));
     }
-    assert_eq!([0, 11, 17, 23, 29].map(Reason::from_number), [None; 5]);
+    assert_eq!([0, 11, 17, 23, 29, 33, 34].map(Reason::from_number), [None; 7]);
     for number in 1..=25 {
         let kind = Type::from_number(number).expect("25 types");
         assert_eq!(kind as u32, number);
@@ -304,6 +304,57 @@ fn glass_is_moved() {
         Err(Unwritten::Refused(refusal))
     );
     assert_eq!([Direction::Forth, Direction::Back].map(Direction::number), [0, 1]);
+}
+
+/// A wall above the lamp before it, whose name another wall has below; notes go along, and the last one stays.
+const UNSORTED: &[u8] = b"# oak\nvoid plastic wall 0 0 5 .5 .4 .2 0 0\nwall sphere knob 0 0 4 0 0 0 1 # brass?\n\n\
+    void light\nlamp 0 0 3 1 1 1\nvoid plastic wall 0 0 5 .2 .2 .2 0 0\n# the end\n";
+
+#[test]
+fn a_scene_is_sorted() {
+    let sorted = b"\nvoid light\nlamp 0 0 3 1 1 1\n# oak\nvoid plastic wall 0 0 5 .5 .4 .2 0 0\n\
+        wall sphere knob 0 0 4 0 0 0 1 # brass?\nvoid plastic wall 0 0 5 .2 .2 .2 0 0\n# the end\n";
+    let (mut records, mut reals, mut pairs, mut out) = ([9; RECORD * 5], [9.0; 18], [9; PAIR * 5], [9; 200]);
+    let scene = Scene::read(Mode::New, UNSORTED, &mut records, &mut reals, &mut pairs).expect("well-formed");
+    assert_eq!(scene.sort(&mut out), Ok(&sorted[..]));
+    assert!(out[sorted.len()..].iter().all(|&byte| byte == 0));
+    assert_eq!(scene.sort(&mut out[..sorted.len()]), Ok(&sorted[..]));
+    let ((mut a, mut x), (mut b, mut y)) = (([9; RECORD * 4], [9.0; 17]), ([9; RECORD * 4], [9.0; 17]));
+    let saves = Saves::read(Mode::New, UNSORTED, &mut a, &mut x, sorted, &mut b, &mut y).expect("both are well-formed");
+    assert_eq!(saves.lines().count(), 0);
+    assert_eq!(
+        (saves.left.finish(2), saves.right.finish(3)),
+        (scene.finish(2), Ok(Finish { material: Some(2), links: 1 }))
+    );
+    assert_eq!(saves.right.sort(&mut out), Ok(&sorted[..]));
+    assert_eq!(scene.sort(&mut out[..sorted.len() - 1]), Err(Unwritten::OutputTooSmall));
+    assert_eq!(sort(Mode::New, UNSORTED, &records, &reals, &mut out), Ok(&sorted[..]));
+    records[RECORD - 1] += 1;
+    assert_eq!(sort(Mode::New, UNSORTED, &records, &reals, &mut out), Err(Unwritten::TablesDiffer));
+    assert_eq!(out, [0; 200]);
+    let refusal = Refusal { reason: Reason::NoRecordRoom, place: UNSORTED.len() - 47 };
+    assert_eq!(sort(Mode::New, UNSORTED, &records[..43], &reals, &mut out), Err(Unwritten::Refused(refusal)));
+}
+
+#[test]
+fn a_scene_with_other_lines_is_not_sorted() {
+    let mut out = [9; 64];
+    let mut refused = |text: &[u8]| {
+        out.fill(9);
+        let (mut records, mut reals, mut pairs) = ([9; RECORD * 2], [9.0; 3], [9; PAIR * 2]);
+        let scene = Scene::read(Mode::New, text, &mut records, &mut reals, &mut pairs).expect("well-formed");
+        let refused = scene.sort(&mut out).expect_err("lines end elsewhere");
+        assert_eq!(out, [0; 64]);
+        refused
+    };
+    let unended = refused(b"void light lamp 0 0 3 1 1 1\n# a lamp");
+    assert_eq!(unended, Unwritten::LastLineNotEnded { place: 36 });
+    assert_eq!(unended.to_string(), "last line not ended (reason 33), at byte 36");
+    let crowded = refused(b"void light lamp 0 0 3 1 1 1 void alias bulb lamp\n");
+    assert_eq!(crowded, Unwritten::TwoOnALine { place: 28 });
+    assert_eq!(crowded.to_string(), "two statements on a line (reason 34), at byte 28");
+    assert_eq!([unended, crowded].map(Unwritten::number), [33, 34]);
+    assert_eq!(refused(b"void light lamp 0 0 3 1 1 1 void alias bulb lamp"), Unwritten::LastLineNotEnded { place: 48 });
 }
 
 #[test]

@@ -6,12 +6,6 @@ use reader::Answer;
 use scene::Mode;
 use writer::Answer as Moved;
 
-// A refusal is said on standard error too, as whatever reads standard output expects a scene there.
-fn refuse(number: usize, reason: u32, place: usize, line: usize) -> bool {
-    input::say_refusal(number, reason, place, line);
-    output::print_refusal(reason, place, line)
-}
-
 fn print_moved(
     mode: Mode,
     direction: Direction,
@@ -23,7 +17,7 @@ fn print_moved(
     let mut out = [0u8; table::MOST_BYTES];
     match mover::move_glass(mode, direction, text, records, reals, &mut out) {
         Moved::Written(n) => output::print(lexer::part(&out, 0, n)),
-        Moved::Refused(reason, place) => refuse(number, reason, place, 0),
+        Moved::Refused(reason, place) => input::refuse(number, reason, place, 0),
     }
 }
 
@@ -34,15 +28,9 @@ fn move_glass(mode: Mode, direction: Direction, number: usize, text: &[u8]) -> b
     match reader::read_with_own_tables(mode, text, &mut records, &mut reals) {
         Answer::Accepted(_, _) => print_moved(mode, direction, number, text, &records, &reals),
         Answer::Refused(reason, place) => {
-            refuse(number, reason, place, line_numbers::line_at(text, place))
+            input::refuse(number, reason, place, line_numbers::line_at(text, place))
         }
     }
-}
-
-// What cannot be read is said on standard error too, as a refusal is.
-fn pass_over(number: usize) -> bool {
-    input::say_unreadable(number);
-    input::print_unreadable(number)
 }
 
 // Answers whether to go on with the next text: not after a failed write. The first one's number tells whether there are several.
@@ -51,8 +39,9 @@ fn move_text(mode: Mode, direction: Direction, first: usize, number: usize) -> b
     match input::load(number, &mut text) {
         Loaded::Text(n) => input::print_heading_from(first, number)
             && move_glass(mode, direction, number, lexer::part(&text, 0, n)),
-        Loaded::TooLong => input::print_heading_from(first, number) && refuse(number, 1, 0, 1),
-        Loaded::Unreadable => pass_over(number),
+        Loaded::TooLong => input::print_heading_from(first, number)
+            && input::refuse(number, 1, 0, 1),
+        Loaded::Unreadable => input::pass_over(number),
     }
 }
 

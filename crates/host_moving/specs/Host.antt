@@ -1,25 +1,20 @@
 -- What a host program is told of a scene with its glass moved: a number for the kind of answer, and the answer's values in a small array.
 use mathlib.Core.Bool.{cond}
 use mathlib.Core.List.{List}
-use mathlib.Core.Path.{_≡_}
 use Prim.Native.Nat.{ℕ}
 use lib.Dec.{eqb}
 use lib.Ieee.{Float}
 use lib.ListN.{length}
 use Rattle.host_reading.specs.Host.{modeOf}
+use Rattle.host_writing.specs.Host.{HostTold}
 use Rattle.laws.specs.Bytes.{Bytes}
 use Rattle.mover.specs.Answer.{movedBy}
 use Rattle.moving.specs.declared.Direction.{Direction}
 use Rattle.moving.specs.declared.Direction.the-variants.{Back, Forth}
-use Rattle.writer.specs.Answer as written
-use Rattle.writer.specs.Answer.{answered, output}
 
 -- 1 is back, and any other number forth
 unfoldable pub directionOf : ℕ → Direction
 directionOf n = cond (eqb n 1) Back Forth
 
--- the reason, or 0; place and length; and the output
-pub record HostMoves (mode direction : ℕ) (text : Bytes) (records : List ℕ) (reals : List Float) (out : Bytes) (r : ℕ) (values : List ℕ) (out′ : Bytes) : Type 0 where
-  pub says : r ≡ written.reasonOf (answered (movedBy (modeOf mode) (directionOf direction) text records reals (length out)))
-  pub numbers : values ≡ written.valuesOf (answered (movedBy (modeOf mode) (directionOf direction) text records reals (length out)))
-  pub bytes : out′ ≡ output (length out) (movedBy (modeOf mode) (directionOf direction) text records reals (length out))
+abbrev pub HostMoves : (mode direction : ℕ) (text : Bytes) (records : List ℕ) (reals : List Float) (out : Bytes) (r : ℕ) (values : List ℕ) (out′ : Bytes) → Type 0
+HostMoves mode direction text records reals out r values out′ = HostTold (movedBy (modeOf mode) (directionOf direction) text records reals (length out)) (length out) r values out′

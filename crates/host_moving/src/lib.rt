@@ -1,6 +1,5 @@
 // A scene with its glass moved, as host programs are told of it: a number for the kind of answer, and its values in a small array.
 use moving::Direction;
-use writer::Answer;
 ghost use mathlib.Core.Path.{_≡_};
 ghost use Rattle.host_moving.specs.Host.{HostMoves, directionOf};
 
@@ -28,14 +27,6 @@ pub fn tell_moved(
 {
     let m = host_reading::mode_of(mode);
     let d = direction_of(direction);
-    match mover::move_glass(m, d, text, records, reals, out) {
-        Answer::Written(len) => {
-            *answer = [0, len];
-            0
-        }
-        Answer::Refused(reason, place) => {
-            *answer = [place, 0];
-            reason
-        }
-    }
+    let moved = mover::move_glass(m, d, text, records, reals, out);
+    host_writing::tell_answer(moved, answer)
 }

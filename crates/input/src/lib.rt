@@ -156,12 +156,24 @@ pub fn print_unreadable(number: usize) -> bool {
 }
 
 // The same line on standard error.
-pub fn say_unreadable(number: usize) {
+fn say_unreadable(number: usize) {
     write_unreadable(STDERR_FILENO, number);
 }
 
 // A text's refusal on standard error, with a file's name in it.
-pub fn say_refusal(number: usize, reason: u32, place: usize, line: usize) {
+fn say_refusal(number: usize, reason: u32, place: usize, line: usize) {
     write_name(STDERR_FILENO, number, b" ");
     output::say_refusal(reason, place, line);
+}
+
+// A refusal on standard output and on standard error too, for a program whose output is taken for a scene.
+pub fn refuse(number: usize, reason: u32, place: usize, line: usize) -> bool {
+    say_refusal(number, reason, place, line);
+    output::print_refusal(reason, place, line)
+}
+
+// What cannot be read, said on both likewise.
+pub fn pass_over(number: usize) -> bool {
+    say_unreadable(number);
+    print_unreadable(number)
 }

@@ -1,6 +1,6 @@
 // The entry points for host programs, under C's calling convention: numbers, slices and small arrays, no precondition. Each is
 // the call of the same promise in `host_reading`, `host_scenes`, `host_shown`, `host_saves`, `host_lines`, `host_writing`,
-// `host_moving`, `host_rays`, `host_polygon`, `host_pane`, `ranks` or `root`.
+// `host_moving`, `host_sorting`, `host_rays`, `host_polygon`, `host_pane`, `ranks` or `root`.
 ghost use mathlib.Core.List.{[], _∷_};
 ghost use mathlib.Core.Path.{_≡_};
 ghost use lib.ListN.{length, replicate};
@@ -18,6 +18,7 @@ ghost use Rattle.host_saves.specs.Host.{HostReadsBoth};
 ghost use Rattle.host_reading.specs.Host.{HostReads, HostReadsIndexed};
 ghost use Rattle.host_scenes.specs.Host.{finishReason, finishValues, namePart, wordValues};
 ghost use Rattle.host_shown.specs.Host.{shownMany, shownReason};
+ghost use Rattle.host_sorting.specs.Host.{HostSorts};
 ghost use Rattle.host_writing.specs.Host.{HostWrites};
 ghost use Rattle.ordered.specs.Lines.{scene};
 ghost use Rattle.pane.specs.Factors.{factorsOf};
@@ -236,6 +237,21 @@ pub extern "C" fn kribbelsteen_move_glass(
     ensures { λ r. ⌜ HostMoves mode direction (now (text .entry)) (now (records .entry)) (now (reals .entry)) (now (out .entry)) r (now (answer .exit)) (now (out .exit)) ⌝ }
 {
     host_moving::tell_moved(mode, direction, text, records, reals, out, answer)
+}
+
+// Writes a scene sorted: the reason or 0, and the place of a refusal and the length of the text.
+#[no_mangle]
+pub extern "C" fn kribbelsteen_sort(
+    mode: u32,
+    text: &[u8],
+    records: &[u32],
+    reals: &[f64],
+    out: &mut [u8],
+    answer: &mut [usize; 2],
+) -> u32
+    ensures { λ r. ⌜ HostSorts mode (now (text .entry)) (now (records .entry)) (now (reals .entry)) (now (out .entry)) r (now (answer .exit)) (now (out .exit)) ⌝ }
+{
+    host_sorting::tell_sorted(mode, text, records, reals, out, answer)
 }
 
 // A ray on a sphere: 0 hit, 1 miss, or the refusal's number, and the distance.

@@ -45,7 +45,7 @@ module _ (limit room : ℕ) (D : List Statement) where
 
 own-moved : (mode : Mode) (m : Direction) (text : Bytes) (n k room : ℕ) (es : List Entry) → read (settingsFor mode n k) text ≡ accepted es → movedFrom mode m text n k room ≡ movedOutcome (min 4096 k) room (moved m (statements es))
 own-moved mode m text n k room es e =
-    own-checked (λ D. movedOutcome (min 4096 (length (realImage k (read (settingsFor mode n k) text)))) room (moved m D)) mode text n k es e
+    own-checked (λ x. movedOutcome (min 4096 (length (realImage k (read (settingsFor mode n k) text)))) room (moved m (statements x))) mode text n k es e
     ∙ ap (λ (l : ℕ). movedOutcome (min 4096 l) room (moved m (statements es))) (reals-kept mode n k text)
 
 -- ---- the three ends of a reading

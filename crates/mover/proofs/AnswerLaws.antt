@@ -119,8 +119,8 @@ module _ {made : Bytes} {r : Cursor} {reals reason : ℕ} (m : Direction) (text 
 -- ---- the call
 
 module _ (mode : Mode) (m : Direction) (text : Bytes) (table : List ℕ) (doubles : List Float) (out : Bytes) where
-  abbrev made : List Statement → Outcome
-  made D = movedOutcome (min 4096 (length doubles)) (length out) (moved m D)
+  abbrev made : List Entry → Outcome
+  made es = movedOutcome (min 4096 (length doubles)) (length out) (moved m (statements es))
 
   pub moves-refused : {out′ : Bytes} (n p : ℕ) → fresh.Refused n p ≡ freshOf text table doubles (readInto mode text table doubles) → out′ ≡ filled 0 (length out) [] → Moves mode m text table doubles out (call.Refused n p) out′
   moves-refused n p e z =

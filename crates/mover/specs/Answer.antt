@@ -11,6 +11,7 @@ use Rattle.moving.specs.Moved.{moved}
 use Rattle.moving.specs.declared.Direction.{Direction}
 use Rattle.reader.specs.Answer.{readInto}
 use Rattle.scene.specs.Links.{realsUsed}
+use Rattle.scene.specs.Reading.{statements}
 use Rattle.scene.specs.Statement.{Statement}
 use Rattle.scene.specs.declared.Mode.{Mode}
 use Rattle.tidying.specs.Tidy.{tidy}
@@ -34,7 +35,7 @@ movedOutcome limit output D = outcomeFor (movedRefusal (not (leb (length (tidy D
 -- what a call comes to, in a mode and a direction, of a text, two lent tables and an output of so many bytes. "Refusals for moving, after
 -- the writer's 22"
 abbrev pub movedBy : Mode → Direction → Bytes → (records : List ℕ) → (reals : List Float) → (output : ℕ) → Outcome
-movedBy mode m text records reals output = checked (λ D. movedOutcome (min 4096 (length reals)) output (moved m D)) text records reals (readInto mode text records reals)
+movedBy mode m text records reals output = checked (λ es. movedOutcome (min 4096 (length reals)) output (moved m (statements es))) text records reals (readInto mode text records reals)
 
 -- one call: the answer, and the output at exit
 pub record Moves (mode : Mode) (m : Direction) (text : Bytes) (records : List ℕ) (reals : List Float) (out : Bytes) (r : Answer) (out′ : Bytes) : Type 0 where

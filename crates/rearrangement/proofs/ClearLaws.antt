@@ -3,9 +3,9 @@ use mathlib.Core.List.{List, [], _∷_, _++_, append-assoc, append-nil}
 use mathlib.Core.Path.{_≡_, ap, sym, _∙_}
 use Rattle.laws.specs.Bytes.{Bytes}
 use Rattle.rearrangement.specs.Cut.{Piece}
+use Rattle.rearrangement.specs.Order.{Apart}
 use Rattle.scene.proofs.IndependentLaws.{clear-first, clear-second}
 use Rattle.scene.proofs.SwapLaws.{Absent, BodyAbsent, Clear}
-use Rattle.scene.specs.Block.{Independent}
 use Rattle.scene.specs.Statement.{Body, Statement, alias, primitive}
 
 -- ---- what blocks say, latest first
@@ -52,13 +52,13 @@ clear-nil (s ∷ A) = (record { name = λ g. tt; modifier = λ e. tt; body = nil
     nil (primitive t ss rs) = tt
     nil (alias x) = tt
 
--- ---- a block that is independent of each of these
+-- ---- a block that is related to each of these
 
-abbrev pub Free : Piece → List Piece → Type 0
-Free c [] = Unit {0}
-Free c (x ∷ xs) = Independent (x .said) (c .said) × Free c xs
+abbrev pub Free : (R : Piece → Piece → Type 0) → Piece → List Piece → Type 0
+Free R c [] = Unit {0}
+Free R c (x ∷ xs) = R x c × Free R c xs
 
-pub free-clear : (c : Piece) (xs : List Piece) → Free c xs → Clear (saids xs) (c .said) × Clear (c .said) (saids xs)
+pub free-clear : (c : Piece) (xs : List Piece) → Free Apart c xs → Clear (saids xs) (c .said) × Clear (c .said) (saids xs)
 unfolding saids
 free-clear c [] h = (tt, clear-nil (c .said))
 free-clear c (x ∷ xs) h =

@@ -5,3 +5,6 @@ pub mod BeforeLaws
 pub mod CutLaws
 pub mod FrontLaws
 pub mod RearrangeLaws
+pub mod LayoutLaws
+pub mod BlockLaws
+pub mod HeldLaws

@@ -8,7 +8,6 @@ use Rattle.laws.specs.Shuffle.{Shuffle}
 use Rattle.rearrangement.proofs.ClearLaws.{Free}
 use Rattle.rearrangement.specs.Cut.{Piece}
 use Rattle.rearrangement.specs.Order.{Passes}
-use Rattle.scene.specs.Block.{Independent}
 
 -- ---- blocks of a list
 
@@ -45,15 +44,16 @@ shuffle-in (c ∷ new) old b (xs, ys, e, k) h = go (in-cases b c xs ys (subst (I
     go (inr (inl q)) ih = inr (ih (in-left b xs ys q))
     go (inr (inr q)) ih = inr (ih (in-right b xs ys q))
 
-passes-in : (c : Piece) (bs : List Piece) (b : Piece) → Passes c bs → In b bs → b .number < c .number → Independent (b .said) (c .said)
-passes-in c [] b h i l = absurd i
-passes-in c (x ∷ bs) b h (inl e) l = subst (λ (y : Piece). Independent (y .said) (c .said)) (sym e) (h .0 (subst (λ (y : Piece). y .number < c .number) e l))
-passes-in c (x ∷ bs) b h (inr i) l = passes-in c bs b (h .1) i l
+module _ (R : Piece → Piece → Type 0) where
+  passes-in : (c : Piece) (bs : List Piece) (b : Piece) → Passes R c bs → In b bs → b .number < c .number → R b c
+  passes-in c [] b h i l = absurd i
+  passes-in c (x ∷ bs) b h (inl e) l = subst (λ (y : Piece). R y c) (sym e) (h .0 (subst (λ (y : Piece). y .number < c .number) e l))
+  passes-in c (x ∷ bs) b h (inr i) l = passes-in c bs b (h .1) i l
 
--- what stood before c and stands behind it now is independent of it
-pub free-of : (c : Piece) (bs xs : List Piece) → Passes c bs → ((b : Piece) → In b xs → In b bs × (b .number < c .number)) → Free c xs
-free-of c bs [] h f = tt
-free-of c bs (x ∷ xs) h f = let k = f x (inl refl) in (passes-in c bs x h (k .0) (k .1), free-of c bs xs h (λ b i. f b (inr i)))
+  -- what stood before c and stands behind it now is related to it
+  pub free-of : (c : Piece) (bs xs : List Piece) → Passes R c bs → ((b : Piece) → In b xs → In b bs × (b .number < c .number)) → Free R c xs
+  free-of c bs [] h f = tt
+  free-of c bs (x ∷ xs) h f = let k = f x (inl refl) in (passes-in c bs x h (k .0) (k .1), free-of c bs xs h (λ b i. f b (inr i)))
 
 -- ---- numbers that rise
 

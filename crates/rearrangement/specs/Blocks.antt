@@ -68,8 +68,11 @@ abbrev pub uncrowded : Option ℕ → Verdict
 uncrowded none = can
 uncrowded (some p) = cannot 34 p
 
+abbrev pub unended : Bytes → Verdict
+unended text = cannot 33 (length text)
+
 unfoldable pub verdict : Bytes → List Entry → Verdict
-verdict text es = cond (linesEnd text) (uncrowded (crowded text es)) (cannot 33 (length text))
+verdict text es = cond (linesEnd text) (uncrowded (crowded text es)) (unended text)
 
 -- ---- where the next statement begins
 

@@ -8,14 +8,21 @@ use lib.ListN.{length}
 use Rattle.rearrangement.specs.Cut.{Piece}
 use Rattle.scene.specs.Block.{Independent}
 
--- c stands before each of these now: of those that it stood behind it is independent
-abbrev pub Passes : Piece → List Piece → Type 0
-Passes c [] = Unit {0}
-Passes c (b ∷ bs) = (b .number < c .number → Independent (b .said) (c .said)) × Passes c bs
+-- c stands before each of these now: with those of them that it stood behind it is related by R
+abbrev pub Passes : (R : Piece → Piece → Type 0) → Piece → List Piece → Type 0
+Passes R c [] = Unit {0}
+Passes R c (b ∷ bs) = (b .number < c .number → R b c) × Passes R c bs
+
+abbrev pub OrderedBy : (R : Piece → Piece → Type 0) → List Piece → Type 0
+OrderedBy R [] = Unit {0}
+OrderedBy R (c ∷ bs) = Passes R c bs × OrderedBy R bs
+
+-- only blocks that are independent of one another changed their order
+abbrev pub Apart : Piece → Piece → Type 0
+Apart b c = Independent (b .said) (c .said)
 
 abbrev pub Ordered : List Piece → Type 0
-Ordered [] = Unit {0}
-Ordered (c ∷ bs) = Passes c bs × Ordered bs
+Ordered bs = OrderedBy Apart bs
 
 -- ---- "after renumbering"
 

@@ -1,3 +1,4 @@
 -- To be believed.
 pub mod Question
 pub mod View
+pub mod Number

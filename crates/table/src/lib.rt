@@ -5,6 +5,7 @@ ghost use lib.ListN.{getD, length, replicate, take};
 ghost use Rattle.scene.specs.HouseRules.{zeroReal};
 ghost use Rattle.scene.specs.Record.{fieldIn, nameIn, recordIn, settingsFor, width};
 ghost use Rattle.scene.specs.Told.{realsOf};
+ghost use Rattle.table.specs.Number.{numberIn};
 ghost use Rattle.table.specs.Question.{numberRefusal};
 use scene::Mode;
 use scene::Settings;
@@ -78,6 +79,17 @@ pub fn field(records: &[u32], n: usize, k: usize) -> u32
         return 0;
     }
     records[at + k]
+}
+
+// Number n of a list, from 1; 0 where there is none.
+pub fn number_at(numbers: &[usize], n: usize) -> usize
+    ensures { λ r. ⌜ r ≡ numberIn (now (numbers .entry)) n ⌝ }
+{
+    if n == 0 {
+        return 0;
+    }
+    let i = n - 1;
+    if i < numbers.len() { numbers[i] } else { 0 }
 }
 
 // Real number i, from 0; 0 where the table has none.

@@ -4,17 +4,11 @@ use reader::Answer;
 use scene::Mode;
 use writer::Answer as Tidied;
 
-// A refusal is said on standard error too, as whatever reads standard output expects a scene there.
-fn refuse(number: usize, reason: u32, place: usize, line: usize) -> bool {
-    input::say_refusal(number, reason, place, line);
-    output::print_refusal(reason, place, line)
-}
-
 fn print_tidy(mode: Mode, number: usize, text: &[u8], records: &[u32], reals: &[f64]) -> bool {
     let mut out = [0u8; table::MOST_BYTES];
     match writer::write(mode, text, records, reals, &mut out) {
         Tidied::Written(n) => output::print(lexer::part(&out, 0, n)),
-        Tidied::Refused(reason, place) => refuse(number, reason, place, 0),
+        Tidied::Refused(reason, place) => input::refuse(number, reason, place, 0),
     }
 }
 
@@ -25,15 +19,9 @@ fn tidy(mode: Mode, number: usize, text: &[u8]) -> bool {
     match reader::read_with_own_tables(mode, text, &mut records, &mut reals) {
         Answer::Accepted(_, _) => print_tidy(mode, number, text, &records, &reals),
         Answer::Refused(reason, place) => {
-            refuse(number, reason, place, line_numbers::line_at(text, place))
+            input::refuse(number, reason, place, line_numbers::line_at(text, place))
         }
     }
-}
-
-// What cannot be read is said on standard error too, as a refusal is.
-fn pass_over(number: usize) -> bool {
-    input::say_unreadable(number);
-    input::print_unreadable(number)
 }
 
 // Answers whether to go on with the next text: not after a failed write.
@@ -42,8 +30,8 @@ fn tidy_text(mode: Mode, number: usize) -> bool {
     match input::load(number, &mut text) {
         Loaded::Text(n) => input::print_heading(number)
             && tidy(mode, number, lexer::part(&text, 0, n)),
-        Loaded::TooLong => input::print_heading(number) && refuse(number, 1, 0, 1),
-        Loaded::Unreadable => pass_over(number),
+        Loaded::TooLong => input::print_heading(number) && input::refuse(number, 1, 0, 1),
+        Loaded::Unreadable => input::pass_over(number),
     }
 }
 

@@ -26,19 +26,19 @@ own-match : (text : Bytes) (n m : ℕ) (x : Reading) → length (recordImage tex
 unfolding tablesMatch
 own-match text n m x e f = (λ i. same (recordImage text n x) (recordImage text (e i) x) && sameReals (realImage m x) (realImage (f i) x)) ∙ rw (same-refl (recordImage text n x), reals-same (realImage m x))
 
--- what is made of a text's statements, where its own tables are lent
-pub own-checked : (made : List Statement → Outcome) (mode : Mode) (text : Bytes) (n m : ℕ) (es : List Entry) → read (settingsFor mode n m) text ≡ accepted es
-    → let x = read (settingsFor mode n m) text in checked made text (recordImage text n x) (realImage m x) (readInto mode text (recordImage text n x) (realImage m x)) ≡ made (statements es)
+-- what is made of a text's entries, where its own tables are lent
+pub own-checked : (made : List Entry → Outcome) (mode : Mode) (text : Bytes) (n m : ℕ) (es : List Entry) → read (settingsFor mode n m) text ≡ accepted es
+    → let x = read (settingsFor mode n m) text in checked made text (recordImage text n x) (realImage m x) (readInto mode text (recordImage text n x) (realImage m x)) ≡ made es
 own-checked made mode text n m es e =
     let x = read (settingsFor mode n m) text in
     let a = numbers-kept mode n m text in
     let b = reals-kept mode n m text in
     ap (checked made text (recordImage text n x) (realImage m x)) ((λ i. read (settingsFor mode (a i) (b i)) text) ∙ e)
-    ∙ (λ i. cond (tablesMatch text (recordImage text n (e i)) (realImage m (e i)) (accepted es)) (made (statements es)) (refused 22 0))
-    ∙ ap (λ (t : Bool). cond t (made (statements es)) (refused 22 0)) (own-match text n m (accepted es) (ap (λ (y : Reading). length (recordImage text n y)) (sym e) ∙ a) (ap (λ (y : Reading). length (realImage m y)) (sym e) ∙ b))
+    ∙ (λ i. cond (tablesMatch text (recordImage text n (e i)) (realImage m (e i)) (accepted es)) (made es) (refused 22 0))
+    ∙ ap (λ (t : Bool). cond t (made es) (refused 22 0)) (own-match text n m (accepted es) (ap (λ (y : Reading). length (recordImage text n y)) (sym e) ∙ a) (ap (λ (y : Reading). length (realImage m y)) (sym e) ∙ b))
 
 pub write-again : WriteAgainLaw
 write-again mode text n m room es e fits =
     let b = read-back (settingsFor mode n m) text es e fits in
-    let w = own-checked (λ D. fitted room (tidy D)) mode text n m es e in
-    record { written = w; again = own-checked (λ D. fitted room (tidy D)) mode (tidy (statements es)) n m (b .entries) (b .reads) ∙ ap (λ l. fitted room (tidy l)) (b .meant) ∙ sym w }
+    let w = own-checked (λ x. fitted room (tidy (statements x))) mode text n m es e in
+    record { written = w; again = own-checked (λ x. fitted room (tidy (statements x))) mode (tidy (statements es)) n m (b .entries) (b .reads) ∙ ap (λ l. fitted room (tidy l)) (b .meant) ∙ sym w }

@@ -27,7 +27,6 @@ use Rattle.record_text.specs.RecordText.{recordTexts}
 use Rattle.scene.specs.Reading as reading
 use Rattle.scene.specs.Reading.{Entry, Reading, accepted, readStatements, statements}
 use Rattle.scene.specs.Record.{filled, recordImage, realImage, settingsFor}
-use Rattle.scene.specs.Statement.{Statement}
 use Rattle.scene.specs.declared.Mode.{Mode}
 use Rattle.scene.specs.declared.Settings.{Settings}
 use Rattle.sides.proofs.MixedLaws.{resolved}
@@ -39,15 +38,15 @@ use Rattle.writer.specs.declared.Answer.the-variants as call
 
 -- ---- the comparison of the tables
 
--- the statements of a text whose tables match, and what is made of them
-pub record Matched (made : List Statement → Outcome) (r : Settings) (text : Bytes) (table : List ℕ) (doubles : List Float) (x : Reading) (n : ℕ) : Type 0 where
+-- the entries of a text whose tables match, and what is made of them
+pub record Matched (made : List Entry → Outcome) (r : Settings) (text : Bytes) (table : List ℕ) (doubles : List Float) (x : Reading) (n : ℕ) : Type 0 where
   pub entries : List Entry
   pub reads : readStatements r text ≡ accepted entries
   pub count : n ≡ length entries
   pub own : table ≡ recordImage text (length table) (accepted entries)
-  pub outcome : checked made text table doubles x ≡ made (statements entries)
+  pub outcome : checked made text table doubles x ≡ made entries
 
-module _ (made : List Statement → Outcome) (text : Bytes) (table : List ℕ) (doubles : List Float) where
+module _ (made : List Entry → Outcome) (text : Bytes) (table : List ℕ) (doubles : List Float) where
   pub refused-as : (x : Reading) (n p : ℕ) → fresh.Refused n p ≡ freshOf text table doubles x → checked made text table doubles x ≡ refused n p
   refused-as (reading.refused m q) n p e =
       let a : m ≡ n = cc in
@@ -55,7 +54,7 @@ module _ (made : List Statement → Outcome) (text : Bytes) (table : List ℕ) (
       λ i. refused (a i) (b i)
   refused-as (accepted es) n p e = go (tablesMatch text table doubles (accepted es)) e
     where
-      go : (t : Bool) → fresh.Refused n p ≡ cond t (fresh.Same (length es)) (fresh.Refused 22 0) → cond t (made (statements es)) (refused 22 0) ≡ refused n p
+      go : (t : Bool) → fresh.Refused n p ≡ cond t (fresh.Same (length es)) (fresh.Refused 22 0) → cond t (made es) (refused 22 0) ≡ refused n p
       go true h = let z : _≡_ {A = ℕ} 0 1 = cc in absurd (omega arith)
       go false h =
           let a : 22 ≡ n = cc in
@@ -74,33 +73,33 @@ module _ (made : List Statement → Outcome) (text : Bytes) (table : List ℕ) (
         reads = resolved r text es d .reads;
         count = cc;
         own = same-eq table (recordImage text (length table) (accepted es)) (and-left _ (sameReals doubles (realImage (length doubles) (accepted es))) f);
-        outcome = ap (λ (t : Bool). cond t (made (statements es)) (refused 22 0)) f;
+        outcome = ap (λ (t : Bool). cond t (made es) (refused 22 0)) f;
       }
 
 -- ---- what was put from the front of an output on
 
-abbrev front : Cursor
+abbrev pub front : Cursor
 front = record { at = 0; full = false }
 
 module _ {out mid t : Bytes} {r : Cursor} (p : Puts out front t r mid) where
   full-is : r .full ≡ ltb (length out) (length t)
   full-is = ap (λ (c : Cursor). c .full) (p .cursor) ∙ ap (λ (k : ℕ). ltb k (length t)) (sub-zero (length out))
 
-  too-long : r .full ≡ true → fitted (length out) t ≡ refused 23 0
+  pub too-long : r .full ≡ true → fitted (length out) t ≡ refused 23 0
   too-long f = let h = ltb-true (length out) (length t) (sym full-is ∙ f) in rw (lt-leb (length t) (length out) h)
 
   module _ (f : r .full ≡ false) where
     fits : length t ≤ length out
     fits = ltb-false (length out) (length t) (sym full-is ∙ f)
 
-    fitting : fitted (length out) t ≡ answer.written t
+    pub fitting : fitted (length out) t ≡ answer.written t
     fitting = rw (le-leb (length t) (length out) fits)
 
-    end-is : r .at ≡ length t
+    pub end-is : r .at ≡ length t
     end-is = let a : r .at ≡ 0 + min (length t) (length out - 0) = ap (λ (c : Cursor). c .at) (p .cursor) in omega (arith, fits)
 
     -- the text, and zeros in place of what stands behind it
-    rest-cleared : take (r .at) mid ++ replicate (length mid - r .at) 0 ≡ filled 0 (length out) t
+    pub rest-cleared : take (r .at) mid ++ replicate (length mid - r .at) 0 ≡ filled 0 (length out) t
     unfolding put
     rest-cleared =
         let behind : length mid - r .at ≡ length out - length t = omega (arith, end-is, puts-length p) in
@@ -120,14 +119,14 @@ cleared-from out at start s rest z =
 module _ (mode : Mode) (text : Bytes) (table : List ℕ) (doubles : List Float) (out : Bytes) where
   pub writes-refused : (n p : ℕ) → fresh.Refused n p ≡ freshOf text table doubles (readInto mode text table doubles) → {out′ : Bytes} → out′ ≡ filled 0 (length out) [] → Writes mode text table doubles out (call.Refused n p) out′
   writes-refused n p e z =
-      let o = refused-as (λ D. fitted (length out) (tidy D)) text table doubles (readInto mode text table doubles) n p e in
+      let o = refused-as (λ es. fitted (length out) (tidy (statements es))) text table doubles (readInto mode text table doubles) n p e in
       record { says = ap answered (sym o); output = z ∙ ap (answer.output (length out)) (sym o) }
 
   module _ (n : ℕ) (e : fresh.Same n ≡ freshOf text table doubles (readInto mode text table doubles)) {r : Cursor} {mid : Bytes} (p : Puts out front (recordTexts text table n) r mid) where
     fitted-as : tidied mode text table doubles (length out) ≡ fitted (length out) (recordTexts text table n)
     fitted-as =
         let R = settingsFor mode (length table) (length doubles) in
-        let m = same-as (λ D. fitted (length out) (tidy D)) text table doubles R (readInto mode text table doubles) n refl e in
+        let m = same-as (λ es. fitted (length out) (tidy (statements es))) text table doubles R (readInto mode text table doubles) n refl e in
         m .outcome ∙ ap (fitted (length out)) (sym (written R text (m .entries) (length table) (m .reads)) ∙ (λ i. recordTexts text (sym (m .own) i) (sym (m .count) i)))
 
     pub writes-too-long : r .full ≡ true → {out′ : Bytes} → out′ ≡ filled 0 (length mid) [] → Writes mode text table doubles out (call.Refused 23 0) out′

@@ -10,9 +10,8 @@ use Rattle.fresh.specs.Fresh.{tablesMatch}
 use Rattle.laws.specs.Bytes.{Bytes}
 use Rattle.reader.specs.Answer.{readInto}
 use Rattle.scene.specs.Reading as reading
-use Rattle.scene.specs.Reading.{Reading, accepted, statements}
+use Rattle.scene.specs.Reading.{Entry, Reading, accepted, statements}
 use Rattle.scene.specs.Record.{filled}
-use Rattle.scene.specs.Statement.{Statement}
 use Rattle.scene.specs.declared.Mode.{Mode}
 use Rattle.tidying.specs.Tidy.{tidy}
 use Rattle.writer.specs.declared.Answer.{Answer}
@@ -28,14 +27,14 @@ abbrev pub fitted : (room : ℕ) → Bytes → Outcome
 fitted room text = cond (leb (length text) room) (written text) (refused 23 0)
 
 -- "Refusals, in order: the reader's; 22 tables differ from the text; 23 [..]; 22 and 23 at place 0": behind the first two, what is made
--- of the statements
-abbrev pub checked : (made : List Statement → Outcome) → Bytes → (records : List ℕ) → (reals : List Float) → Reading → Outcome
+-- of the entries
+abbrev pub checked : (made : List Entry → Outcome) → Bytes → (records : List ℕ) → (reals : List Float) → Reading → Outcome
 checked made text records reals (reading.refused n p) = refused n p
-checked made text records reals (accepted es) = cond (tablesMatch text records reals (accepted es)) (made (statements es)) (refused 22 0)
+checked made text records reals (accepted es) = cond (tablesMatch text records reals (accepted es)) (made es) (refused 22 0)
 
 -- what a call comes to, in a mode, of a text, two lent tables and an output of so many bytes
 abbrev pub tidied : Mode → Bytes → (records : List ℕ) → (reals : List Float) → (room : ℕ) → Outcome
-tidied mode text records reals room = checked (λ D. fitted room (tidy D)) text records reals (readInto mode text records reals)
+tidied mode text records reals room = checked (λ es. fitted room (tidy (statements es))) text records reals (readInto mode text records reals)
 
 -- the answer: the text's length, or reason and place
 abbrev pub answered : Outcome → Answer

@@ -153,6 +153,11 @@ fn kind(random: &mut Random, mode: u32) -> usize {
 
 /// A statement that is likely to be accepted.
 fn statement(random: &mut Random, mode: u32, given: &mut Given) -> Words {
+    statement_of(random, given, |random| kind(random, mode))
+}
+
+/// The same of a chosen type, or an alias.
+fn statement_of(random: &mut Random, given: &mut Given, kind: impl FnOnce(&mut Random) -> usize) -> Words {
     let modifier = given.modifier(random);
     let name = name(random);
     if !given.definitions.is_empty() && random.percent(20) {
@@ -160,7 +165,7 @@ fn statement(random: &mut Random, mode: u32, given: &mut Given) -> Words {
         given.give(&name, false);
         return vec![modifier, b"alias".to_vec(), name, target];
     }
-    let number = kind(random, mode);
+    let number = kind(random);
     let (kind, strings, reals) = TYPES[number];
     given.give(&name, number < FIRST_MATERIAL);
     let mut words = vec![modifier, kind.as_bytes().to_vec(), name];
@@ -362,7 +367,12 @@ fn statements(random: &mut Random, mode: u32) -> (Vec<Words>, Given) {
 
 /// A text of statements, and tables for it.
 fn laid_out(random: &mut Random, mode: u32, statements: &[Words], damages: usize) -> Case {
-    let mut text = joined(random, statements);
+    let text = joined(random, statements);
+    lent_for(random, mode, text, statements, damages)
+}
+
+/// A text, after so many damages, and tables for its statements.
+fn lent_for(random: &mut Random, mode: u32, mut text: Vec<u8>, statements: &[Words], damages: usize) -> Case {
     (0..damages).for_each(|_| damage(random, &mut text));
     let size = statements.len();
     let words: usize = statements.iter().map(Vec::len).sum();
@@ -655,6 +665,64 @@ pub fn of_size(statements: &str, size: usize) -> Vec<u8> {
     let text = format!("{front}{}{back}", (0..words).map(string).collect::<String>()).into_bytes();
     assert_eq!(text.len(), size);
     text
+}
+
+// ---- statements on lines of their own
+
+/// What may follow a statement's last word on its line.
+const LINE_ENDS: [&[u8]; 8] = [b"\n", b"\n", b"\n", b" \t\n", b"\r\n", b" # behind\n", b"\t#void light\xff\n", b"\n\n"];
+/// Blanks and a comment that end no line.
+const NO_LINE_ENDS: [&[u8]; 4] = [b" ", b"\r", b"\x0b\x0c", b" # behind\r"];
+
+/// A text with each statement on lines of its own, below comments and blank lines; now and then a line is not ended.
+fn in_lines(random: &mut Random, statements: &[Words]) -> Vec<u8> {
+    let crowded = if random.percent(15) { random.below(statements.len() + 1) } else { statements.len() };
+    let mut out = Vec::new();
+    for (at, words) in statements.iter().enumerate() {
+        while random.percent(30) {
+            out.extend_from_slice(COMMENTS[random.below(COMMENTS.len())]);
+        }
+        for (before, word) in words.iter().enumerate() {
+            if before > 0 {
+                out.extend_from_slice(random.pick(&BLANKS).as_bytes());
+            }
+            out.extend_from_slice(word);
+        }
+        let ends = if at == crowded { &NO_LINE_ENDS[..] } else { &LINE_ENDS };
+        out.extend_from_slice(ends[random.below(ends.len())]);
+    }
+    while random.percent(20) {
+        out.extend_from_slice(COMMENTS[random.below(COMMENTS.len())]);
+    }
+    if random.percent(5) {
+        out.extend_from_slice(ENDS[random.below(ENDS.len())]);
+    } else if random.percent(5) {
+        out.pop();
+    }
+    out
+}
+
+/// A scene of few types, or of mixtures, most of which can be cut into blocks of lines.
+pub fn lined(random: &mut Random) -> Case {
+    let mode = mode(random);
+    let size = match random.below(100) {
+        0..=89 => random.below(14),
+        90..=98 => random.within(14, 60),
+        _ => random.within(61, 300),
+    };
+    let mut statements: Vec<Words> = if size > 0 && random.percent(20) {
+        mixture_statements(random, size)
+    } else {
+        let kinds: Vec<usize> = (0..random.within(1, 6)).map(|_| kind(random, mode)).collect();
+        let mut given = Given::default();
+        (0..size).map(|_| statement_of(random, &mut given, |random| *random.pick(&kinds))).collect()
+    };
+    if random.percent(12) {
+        spoil(random, &mut statements);
+    }
+    let text = in_lines(random, &statements);
+    let damages = usize::from(random.percent(5));
+    lent_for(random, mode, text, &statements, damages)
 }
 
 // ---- names that collide

@@ -1,14 +1,31 @@
 -- `host_moving::tell_moved` meets its contract.
 use borrow.Author.Needs.{needs}
-use Rattle.host_moving.proofs.HostLaws.{moved-told}
+use Rattle.host_writing.proofs.HostLaws.{answer-told}
 use Rattle.host_moving.proofs.tell_moved.Statement.{statement}
 use Rattle.host_moving.proofs.tell_moved.Tie as tie
 
-returns : tie.Need-returns
-returns c = moved-told _ _ _ _ (c .before .before .before .before .before .before .before .before .before .mode-of .ensures) (c .before .before .before .before .before .before .before .before .direction-of .ensures) _ _ _ _ _ _ (rw (c .before .before .len .given .1) at (c .before .before .before .before .before .before .move-glass .ensures))
+mode-of-requires : tie.Need-mode-of-requires
+mode-of-requires c κs = search needs
 
-returns-2 : tie.Need-returns-2
-returns-2 c = moved-told _ _ _ _ (c .before .before .before .before .before .before .before .before .before .mode-of .ensures) (c .before .before .before .before .before .before .before .before .direction-of .ensures) _ _ _ _ _ _ (rw (c .before .before .reason .given .1) at (c .before .before .before .before .before .before .move-glass .ensures))
+direction-of-requires : tie.Need-direction-of-requires
+direction-of-requires c κs = search needs
+
+move-glass-requires : tie.Need-move-glass-requires
+move-glass-requires c κs = search needs
+
+tell-answer-requires : tie.Need-tell-answer-requires
+tell-answer-requires c κs = search needs
+
+same-length : tie.Need-same-length
+same-length c = search needs
+
+returns : tie.Need-returns
+returns c =
+    let w = c .before .before .before .before in
+    let d = w .before .before in
+    let m = d .before in
+    rw (← (m .mode-of .ensures), ← (d .direction-of .ensures)) (answer-told _ _ _ _ (w .move-glass .ensures .says) (w .move-glass .ensures .output) (c .tell-answer .ensures .0) (c .tell-answer .ensures .1))
 
 pub tell-moved-spec : {M : Type 1} → statement M
-tell-moved-spec = tie.close (tie.spec (λ c κs. tt) (λ c κs. tt) (λ c κs. tt) (λ c. search needs) (λ c. search needs) (λ c. search needs) returns (λ c. search needs) returns-2)
+tell-moved-spec =
+    tie.close (tie.spec mode-of-requires direction-of-requires move-glass-requires tell-answer-requires same-length returns)

@@ -1,18 +1,27 @@
 -- `host_writing::tell_written` meets its contract.
 use borrow.Author.Needs.{needs}
-use Rattle.host_writing.proofs.HostLaws.{written-told}
+use Rattle.host_writing.proofs.HostLaws.{answer-told}
 use Rattle.host_writing.proofs.tell_written.Statement.{statement}
 use Rattle.host_writing.proofs.tell_written.Tie as tie
 
+mode-of-requires : tie.Need-mode-of-requires
+mode-of-requires c κs = search needs
+
+write-requires : tie.Need-write-requires
+write-requires c κs = search needs
+
+tell-answer-requires : tie.Need-tell-answer-requires
+tell-answer-requires c κs = search needs
+
+same-length : tie.Need-same-length
+same-length c = search needs
+
 returns : tie.Need-returns
 returns c =
-    let at-write = c .before .before .before .before .before .before in
-    written-told _ _ (at-write .before .before .mode-of .ensures) _ _ _ _ _ _ (rw (c .before .before .len .given .1) at (at-write .write .ensures))
-
-returns-2 : tie.Need-returns-2
-returns-2 c =
-    let at-write = c .before .before .before .before .before .before in
-    written-told _ _ (at-write .before .before .mode-of .ensures) _ _ _ _ _ _ (rw (c .before .before .reason .given .1) at (at-write .write .ensures))
+    let w = c .before .before .before .before in
+    let m = w .before .before in
+    rw (← (m .mode-of .ensures)) (answer-told _ _ _ _ (w .write .ensures .says) (w .write .ensures .output) (c .tell-answer .ensures .0) (c .tell-answer .ensures .1))
 
 pub tell-written-spec : {M : Type 1} → statement M
-tell-written-spec = tie.close (tie.spec (λ c κs. tt) (λ c κs. tt) (λ c. search needs) (λ c. search needs) (λ c. search needs) returns (λ c. search needs) returns-2)
+tell-written-spec =
+    tie.close (tie.spec mode-of-requires write-requires tell-answer-requires same-length returns)

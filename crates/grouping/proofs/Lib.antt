@@ -1,0 +1,4 @@
+pub mod OrderLaws
+pub mod ScanLaws
+pub mod ChoiceLaws
+pub mod FillLaws

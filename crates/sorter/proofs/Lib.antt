@@ -1,0 +1,4 @@
+pub mod MeaningLaws
+pub mod CodeLaws
+pub mod AnswerLaws
+pub mod AgainLaws

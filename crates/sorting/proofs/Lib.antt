@@ -1,0 +1,5 @@
+pub mod ShuffleLaws
+pub mod NameLaws
+pub mod OwnLaws
+pub mod OrderLaws
+pub mod SortLaws

@@ -1,0 +1,1 @@
+// What the ties of an accepted text's records are: laws, no function.

@@ -1,5 +1,5 @@
-/* Kribbelsteen: a verified reader of Radiance scene texts, mixtures resolved, two saves compared, scenes written out, their glass moved,
- * scenes sorted, ray hits, Fresnel values and panes of glass.
+/* Kribbelsteen: a verified reader of Radiance scene texts, mixtures resolved, the order of two primitives judged, two saves compared,
+ * scenes written out, their glass moved, scenes sorted, ray hits, Fresnel values and panes of glass.
  *
  * Link with libkribbelsteen.a. The functions keep nothing between calls, allocate nothing and may be called by several threads
  * at once, each on memory of its own.
@@ -83,7 +83,7 @@ enum kribbelsteen_reason {
     KRIBBELSTEEN_LOOP = 26,             /* modifiers and sides lead in a loop (name of the lowest primitive on any loop) */
     KRIBBELSTEEN_PAIRS_TOO_SMALL = 27,  /* kribbelsteen_read and _read_indexed: under two pair entries per record of room (0) */
     KRIBBELSTEEN_RETIRED_TYPE = 28,     /* antimatter, in the new reading (type) */
-    /* questions to a table: kribbelsteen_name, kribbelsteen_finish, kribbelsteen_shown and kribbelsteen_polygon_in_table */
+    /* questions to a table: kribbelsteen_name, _finish, _shown, _mattered and _polygon_in_table */
     KRIBBELSTEEN_NO_SUCH_PRIMITIVE = 17,
     KRIBBELSTEEN_BAD_TABLE = 18,
     KRIBBELSTEEN_ALLOWANCE = 19,
@@ -107,7 +107,9 @@ enum kribbelsteen_side { KRIBBELSTEEN_LEFT = 0, KRIBBELSTEEN_RIGHT = 1 };
 /* How a key of a line stands: only one save has it, or both have it and it is not the same. */
 enum kribbelsteen_state { KRIBBELSTEEN_ONLY_LEFT = 1, KRIBBELSTEEN_ONLY_RIGHT = 2, KRIBBELSTEEN_CHANGED = 3 };
 
-/* The other answers of the hit routines (1: the ray misses) and of Fresnel (1: total reflection). */
+/* The other answers of kribbelsteen_mattered (1: the order is held), of the hit routines (1: the ray misses) and of Fresnel (1: total
+ * reflection). */
+#define KRIBBELSTEEN_HELD 1
 #define KRIBBELSTEEN_MISS 1
 #define KRIBBELSTEEN_TOTAL_REFLECTION 1
 
@@ -181,6 +183,25 @@ uint32_t kribbelsteen_finish(const uint32_t *records, size_t records_len, size_t
  * refusal. The tables are not written. */
 uint32_t kribbelsteen_shown(const uint32_t *records, size_t records_len, const uint32_t *pairs, size_t pairs_len, size_t count,
                             size_t number, uint32_t *list, size_t list_len, size_t answer[1]);
+
+/* Whether the order of two primitives mattered, in a table of `count` records that may hold anything. The numbers may be given in either
+ * order; the upper primitive is the one of the lower number.
+ *
+ * A primitive gives its name where its type is 10 to 25, so that surfaces give none, and it refers to the names of its modifier and of its
+ * alias target, where it has them; sides of mixtures do not count. Two primitives are bound where one gives a name that the other gives or
+ * refers to; names are the same where their bytes are. The order of two is held where a chain of primitives leads from the upper one to
+ * the lower one, the number of each below that of the next and each bound to the next. So where it is not held, the statements of a scene
+ * can be put in an order that has these two the other way round and each two that are bound as they were. kribbelsteen_sort keeps
+ * whatever is held.
+ *
+ * Returns 0 if nothing holds the order and 1 if it is held, or refuses: 18 if count is over 1,024 or more than the table holds; then 17 if
+ * first is 0 or above count, if second is, or if both are the same; then 18 if any primitive up to count has a modifier or an alias target
+ * that is not below it, or a name that has length 0 or lies outside the text.
+ * answer: the primitive that a shortest chain from the upper one goes to first, of several the lowest number; and the primitive whose name
+ * binds the upper one and that, which is the upper one where it gives its name and the other gives or refers to it, else the other. 0 and
+ * 0 where nothing is held, and on a refusal. Nothing else is written. */
+uint32_t kribbelsteen_mattered(const uint8_t *text, size_t text_len, const uint32_t *records, size_t records_len, size_t count,
+                               size_t first, size_t second, size_t answer[2]);
 
 /* The word at or after a place. Blanks are the bytes 9 to 13 and 32, and a word is a longest run of other bytes from there on;
  * comments are not known here. From inside a word the rest of it is found. Go on from place + length.

@@ -71,6 +71,21 @@ expect '$bin/sort $scratch/open' $'refused=33 place=27 line=1\n' "scene=$scratch
 expect '$bin/sort <$scratch/shared' $'refused=34 place=28 line=1\n' $'refused=34 place=28 line=1\n'
 expect '$bin/sort <$scratch/fits' $'refused=33 place=65536 line=1\n' $'refused=33 place=65536 line=1\n'
 
+# Two entries by their numbers, in either order; the names that are given twice; and what is no pair of a scene.
+expect '$bin/order $scene' $'name=deskfront no=3 line=8 used=4 no=5 line=14 used=6,7\n' ''
+expect '$bin/order $scene 3 5' $'first=3 second=5 order=held by=5 name=deskfront\n' ''
+expect '$bin/order $scene 6 4' $'first=4 second=6 order=held by=5 name=deskfront\n' ''
+expect '$bin/order $scene 3 9' $'first=3 second=9 order=free\n' ''
+expect '$bin/order $scene 3 3' $'first=3 second=3 refused=17\n' ''
+expect '$bin/order --archive $scene 3 99' $'first=3 second=99 refused=17\n' ''
+expect '$bin/order $scratch/refused 1 2' $'refused=7 place=8 line=3\n' ''
+expect '$bin/order $scratch/long' $'refused=1 place=0 line=1\n' ''
+expect '$bin/order missing 1 2' $'scene=missing unreadable\n' ''
+for arguments in '' --archive '$scene 3' '$scene 3 5 7' '$scene three 5' '$scene 3 123456' '$scene -3 5' '-x $scene'; do
+    expect '$bin/order '"$arguments" $'usage: order [--archive] FILE [NUMBER NUMBER]\n' ''
+done
+expect '$bin/order $scene 3 5 >/dev/full' '' "$full"
+
 # A read that fails is no empty scene.
 for program in list finishes shows words numerals rays; do
     expect '$bin/$program <$scratch' $'unreadable\n' ''

@@ -3,10 +3,12 @@
 (archive, text, record_room, real_room), half of them for the archive reading, with at most so many statements each, a quarter of them
 mostly mixtures. Every reason for refusing turns up among them, 6 and 13 by the smaller rooms, but not 1. Some statements are glass, with
 three reals or with four, of which the last is often spelled `1.52` or nearly so. lined_texts(seed, count, most) yields (archive, text)
-with few types in each text and, mostly, each statement on lines of its own, so that sort can cut it into blocks.
+with few types in each text and, mostly, each statement on lines of its own, so that sort can cut it into blocks; few_names(seed, count,
+most) yields such texts whose names are few too, so that many are given more than once.
 
     tools/texts.py NAME      writes a text at or just past a limit of document 01: see limits; or a stored one of two saves that
                              have no name in common, left or right"""
+import collections
 import random
 import sys
 
@@ -162,15 +164,30 @@ def scene_of_few_types(rng, archive, most):
     return statements
 
 
+def scene_of_few_names(rng, archive, most):
+    """Up to so many statements of few names, which are given more than once, by surfaces that have a finish's name too. Now and then a
+    statement stands twice; and as a side leads to the last of its name, some mixtures close a loop."""
+    mixtures = rng.random() < 0.2
+    statements = scene_of_mixtures(rng, most - 1) if mixtures else scene_of_few_types(rng, archive, most - 1)
+    few = rng.sample(NAMES, rng.choice([2, 3, 5, 8]))
+    renamed = collections.defaultdict(lambda: rng.choice(few), void="void")
+    for words in statements:
+        for at in [0, 2] + [3] * (words[1] == "alias") + [4, 5] * (words[1] == "mixfunc"):
+            words[at] = renamed[words[at]]
+    if statements and rng.random() < 0.3:
+        again = rng.choice(statements)
+        statements.insert(statements.index(again), list(again))
+    return statements
+
+
 NOTES = [b"# note \xff!\n", b"\n", b"  \t\n", b"#\n", b"\t# void sphere s 0 0 4\r\n"]
 LINE_ENDS = [b"\n", b"\n", b"\n", b" \t\n", b"\r\n", b" # behind\n", b"\t#void\x00\n", b"\n\n"]
 NO_LINE_ENDS = [b" ", b"\r", b"\x0b", b" # behind\r"]
 
 
-def lined(rng, archive, most):
+def in_lines(rng, statements):
     """A text with each statement on lines of its own, below comments and blank lines. Now and then a statement begins on the line of
     another one or in the comment behind it, the last line is not ended, or a word is spoiled."""
-    statements = scene_of_mixtures(rng, most) if rng.random() < 0.25 else scene_of_few_types(rng, archive, most)
     if statements and rng.random() < 0.1:
         spoil(rng, rng.choice(statements))
     crowded = rng.randrange(len(statements)) if statements and rng.random() < 0.15 else None
@@ -188,7 +205,15 @@ def lined_texts(seed, count, most):
     rng = random.Random(seed)
     for _ in range(count):
         archive = rng.random() < 0.5
-        yield archive, lined(rng, archive, most)
+        mixtures = rng.random() < 0.25
+        yield archive, in_lines(rng, scene_of_mixtures(rng, most) if mixtures else scene_of_few_types(rng, archive, most))
+
+
+def few_names(seed, count, most):
+    rng = random.Random(seed)
+    for _ in range(count):
+        archive = rng.random() < 0.5
+        yield archive, in_lines(rng, scene_of_few_names(rng, archive, most))
 
 
 def texts(seed, count, most):

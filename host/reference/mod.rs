@@ -5,6 +5,7 @@
 pub mod glass;
 pub mod index;
 pub mod mixtures;
+pub mod order;
 pub mod plain;
 pub mod random;
 pub mod rays;

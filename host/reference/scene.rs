@@ -15,7 +15,7 @@ pub const PAIR: usize = 2;
 
 pub const TYPE: usize = 0;
 pub const MODIFIER: usize = 1;
-const TARGET: usize = 2;
+pub const TARGET: usize = 2;
 const NAME: usize = 3;
 const NAME_LENGTH: usize = 4;
 const STRING: usize = 5;
@@ -577,7 +577,7 @@ impl<'t, 'm> Reader<'t, 'm> {
 
 // ---- questions to a table, which may hold anything
 
-const NO_SUCH_PRIMITIVE: u32 = 17;
+pub const NO_SUCH_PRIMITIVE: u32 = 17;
 pub const BAD_TABLE: u32 = 18;
 const USED_UP: u32 = 19;
 

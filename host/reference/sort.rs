@@ -9,19 +9,20 @@ const LAST_LINE_NOT_ENDED: u32 = 33;
 const TWO_ON_A_LINE: u32 = 34;
 
 /// Where a statement stands, and what its order depends on.
-struct Statement<'t> {
+pub struct Statement<'t> {
     /// The place of its first word.
     start: usize,
     /// The place behind its last one.
     end: usize,
-    kind: u32,
-    name: &'t [u8],
+    pub kind: u32,
+    pub name: &'t [u8],
     /// Its modifier, unless that is `void`, and its alias target.
     references: Vec<&'t [u8]>,
 }
 
 impl Statement<'_> {
-    fn gives_to(&self, other: &Statement) -> bool {
+    /// Whether it gives a name that the other refers to.
+    pub fn gives_to(&self, other: &Statement) -> bool {
         !is_surface(self.kind) && other.references.contains(&self.name)
     }
 
@@ -31,7 +32,7 @@ impl Statement<'_> {
 }
 
 /// The statements of an accepted text.
-fn statements(text: &[u8]) -> Vec<Statement<'_>> {
+pub fn statements(text: &[u8]) -> Vec<Statement<'_>> {
     let mut words = Words::new(text);
     let (mut statements, mut kinds) = (Vec::new(), HashMap::new());
     loop {
@@ -109,6 +110,11 @@ fn order(statements: &[Statement]) -> Vec<usize> {
         last = kind;
     }
     order
+}
+
+/// The blocks of an accepted text and what stands behind them, or why it cannot be cut.
+pub fn blocks(text: &[u8]) -> Result<Vec<&[u8]>, Refused> {
+    cut(text, &statements(text))
 }
 
 /// The sorted text of an accepted text, or why it cannot be cut.

@@ -59,6 +59,16 @@ extern "C" {
         list_len: usize,
         answer: *mut usize,
     ) -> u32;
+    fn kribbelsteen_mattered(
+        text: *const u8,
+        text_len: usize,
+        records: *const u32,
+        records_len: usize,
+        count: usize,
+        first: usize,
+        second: usize,
+        answer: *mut usize,
+    ) -> u32;
     fn kribbelsteen_next_word(text: *const u8, text_len: usize, at: usize, answer: *mut usize);
     fn kribbelsteen_read_both(
         mode: u32,
@@ -293,6 +303,26 @@ pub fn shown(records: &[u32], pairs: &[u32], count: usize, number: usize, list: 
         )
     };
     (reason, answer[0])
+}
+
+/// Whether the order of two primitives mattered: 0 if nothing holds it, 1 if it is held, or 17 or 18; then what it is held by and whose
+/// name binds the upper one and that, both 0 if nothing does.
+pub fn mattered(text: &[u8], records: &[u32], count: usize, first: usize, second: usize) -> (u32, [usize; 2]) {
+    let mut answer = [usize::MAX; 2];
+    // SAFETY: each pointer and length is that of a slice, and only the answer, which has two entries, is written.
+    let outcome = unsafe {
+        kribbelsteen_mattered(
+            text.as_ptr(),
+            text.len(),
+            records.as_ptr(),
+            records.len(),
+            count,
+            first,
+            second,
+            answer.as_mut_ptr(),
+        )
+    };
+    (outcome, answer)
 }
 
 /// Place and length of the word at or after a place; the text's length and 0 if there is none.

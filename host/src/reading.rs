@@ -1,7 +1,8 @@
 //! Scene texts, read into lent tables.
 
 use crate::{polygon_in_table, polygon_in_table_above, questions, raw, writing};
-use crate::{Direction, Finish, PolygonRefusal, Question, Ray, Type, Unwritten, Word, Words, INDEX, PAIR, RECORD};
+use crate::{Direction, Finish, Order, PolygonRefusal, Question, Ray, Type, Unwritten, Word, Words};
+use crate::{INDEX, PAIR, RECORD};
 use std::error::Error;
 use std::fmt;
 
@@ -329,6 +330,11 @@ impl<'s> Scene<'s> {
     /// ```
     pub fn shown<'l>(&self, number: usize, list: &'l mut [u32]) -> Result<&'l [u32], Question> {
         questions::shown(self.records, self.pairs, self.counts().primitives, number, list)
+    }
+
+    /// Whether the order of the primitives of two numbers mattered, as [`mattered`](crate::mattered) tells it.
+    pub fn mattered(&self, first: usize, second: usize) -> Result<Order<'s>, Question> {
+        questions::mattered(self.text, self.records, self.counts().primitives, first, second)
     }
 
     /// The distance at which a ray hits the polygon of a number, none if it misses. What is not above [`LEAST`](crate::LEAST) is no

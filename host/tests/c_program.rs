@@ -53,6 +53,35 @@ mixed=25 place=19
 shown 1: 17 0, pairs short: 18 0
 mixed=26 place=13
 shown 1: 17 0, pairs short: 18 0
+order of 1 and 4: 1, 4 1, deskfront
+order of 1 and 3: 1, 3 1, deskfront
+order of 1 and 2: 1, 2 1, deskfront
+order of 2 and 4: 1, 3 3, deskfront
+order of 2 and 3: 1, 3 3, deskfront
+order of 3 and 4: 1, 4 3, deskfront
+order of 0 and 1: 17, 0 0
+order of 1 and 1: 17, 0 0
+order, 9 stated: 18, 0 0
+order, 1 its own alias: 18, 0 0
+order of 1 and 6: 0, 0 0
+order of 1 and 5: 1, 2 1, oak
+order of 1 and 4: 1, 2 1, oak
+order of 1 and 3: 1, 2 1, oak
+order of 1 and 2: 1, 2 1, oak
+order of 2 and 6: 0, 0 0
+order of 2 and 5: 1, 5 2, inlay
+order of 2 and 4: 1, 3 2, inlay
+order of 2 and 3: 1, 3 2, inlay
+order of 3 and 6: 0, 0 0
+order of 3 and 5: 0, 0 0
+order of 3 and 4: 1, 4 3, border
+order of 4 and 6: 0, 0 0
+order of 4 and 5: 0, 0 0
+order of 5 and 6: 0, 0 0
+order of 0 and 1: 17, 0 0
+order of 1 and 1: 17, 0 0
+order, 9 stated: 18, 0 0
+order, 1 its own alias: 18, 0 0
 name=bulb nth=1 state=right
 name=lamp nth=1 state=changed
 name=trim nth=1 state=left

@@ -14,7 +14,7 @@ use reference::index::{self, INDEX};
 use reference::random::Random;
 use reference::saves::{Comparison, Key, Save};
 use reference::scene::{pairs_needed, Counts, Refused, PAIR, RECORD};
-use reference::{glass, mixtures, rays, saves, scene, sort, tidy, tuned};
+use reference::{glass, mixtures, order, rays, saves, scene, sort, tidy, tuned};
 use std::collections::BTreeMap;
 use std::fmt::Debug;
 use std::io::Write;
@@ -1320,23 +1320,35 @@ fn led_to<'s>(save: Save<'s>, pairs: &[u32]) -> BTreeMap<Key<'s>, [Option<Key<'s
     keys.iter().copied().zip((1..).map(led_to)).collect()
 }
 
-/// A sorted text is read into tables of the same lengths, with the same counts; no line tells it from the text, and finishes and sides
-/// are the same but for numbers; and it is its own sorted text.
-fn read_sorted(source: Source, pairs: &[u32], [primitives, used]: [usize; 2], sorted: &[u8]) {
+/// A text in another order is read into tables of the same lengths, with the same counts; no line tells it from the text, and finishes and
+/// sides are the same but for numbers. Gives its tables.
+fn read_reordered(
+    source: Source,
+    pairs: &[u32],
+    [primitives, used]: [usize; 2],
+    reordered: &[u8],
+) -> (Vec<u32>, Vec<f64>) {
     let Source { mode, text, records, reals } = source;
-    let shown = || format!("{:?}, sorted {:?}", String::from_utf8_lossy(text), String::from_utf8_lossy(sorted));
+    let shown = || format!("{:?}, in order {:?}", String::from_utf8_lossy(text), String::from_utf8_lossy(reordered));
     let (mut again, mut doubles) = (vec![1; records.len()], vec![1.0; reals.len()]);
     let mut sides = vec![1; pairs.len()];
-    let read = raw::read(mode, sorted, &mut again, &mut doubles, &mut sides);
+    let read = raw::read(mode, reordered, &mut again, &mut doubles, &mut sides);
     assert_eq!(read, (0, [0, primitives, used]), "{}", shown());
     let left = Save { text, records: &records[..RECORD * primitives], reals: &reals[..used] };
-    let right = Save { text: sorted, records: &again[..RECORD * primitives], reals: &doubles[..used] };
+    let right = Save { text: reordered, records: &again[..RECORD * primitives], reals: &doubles[..used] };
     let mut line = [0; 4];
     let found = raw::next_line(left.text, left.records, left.reals, right.text, right.records, right.reals, &mut line);
     assert_eq!((found, line, Comparison::new(left, right).len()), (0, [0; 4], 0), "{}", shown());
     assert_eq!(led_to(left, pairs), led_to(right, &sides), "{}", shown());
-    let own = Source { mode, text: sorted, records: &again, reals: &doubles };
-    assert_eq!(compare_sorting(own, sorted.len()), (0, sorted.to_vec()), "{}", shown());
+    (again, doubles)
+}
+
+/// A sorted text is read as the text is, and is its own sorted text.
+fn read_sorted(source: Source, pairs: &[u32], counts: [usize; 2], sorted: &[u8]) {
+    let (records, reals) = read_reordered(source, pairs, counts, sorted);
+    let own = Source { mode: source.mode, text: sorted, records: &records, reals: &reals };
+    let text = String::from_utf8_lossy(source.text);
+    assert_eq!(compare_sorting(own, sorted.len()), (0, sorted.to_vec()), "sorted from {text:?}");
 }
 
 #[test]
@@ -1509,6 +1521,352 @@ fn large_texts_are_sorted_alike() {
     let long = [text.as_slice(), b"\n"].concat();
     let source = Source { mode: 0, text: &long, records: &records, reals: &reals };
     assert_eq!(compare_sorting(source, long.len()).0, 1);
+}
+
+// ---- whether order mattered
+
+/// The outcome for two primitives whose order is held over several bonds.
+const FURTHER: u32 = 2;
+
+/// Asks about two numbers in either order, compares, and gives the outcome.
+fn compare_mattered(text: &[u8], records: &[u32], count: usize, first: usize, second: usize) -> u32 {
+    let found = order::mattered(text, records, count, first, second);
+    let expected = match found {
+        Ok(None) => (0, [0, 0]),
+        Ok(Some(held)) => (1, [held.by, held.giver]),
+        Err(reason) => (reason, [0, 0]),
+    };
+    let ours = [[first, second], [second, first]].map(|[a, b]| raw::mattered(text, records, count, a, b));
+    let text = String::from_utf8_lossy(text);
+    assert_eq!(ours, [expected; 2], "order of {first} and {second} of {count} in {records:?}, text {text:?}");
+    match found {
+        Ok(Some(held)) if held.bonds > 1 => FURTHER,
+        _ => expected.0,
+    }
+}
+
+/// Numbers of a table to ask about: all of a small one, and some, with the next ones, of a large one.
+fn some_numbers(random: &mut Random, rows: usize) -> Vec<usize> {
+    if rows <= 13 {
+        return (1..=rows).collect();
+    }
+    let mut numbers: Vec<usize> = (0..6).map(|_| random.within(1, rows - 1)).flat_map(|n| [n, n + 1]).collect();
+    numbers.sort();
+    numbers.dedup();
+    numbers
+}
+
+/// Every two of a table's numbers, or some, and numbers that it has not.
+fn compare_orders(random: &mut Random, tally: &mut Tally, text: &[u8], records: &[u32], count: usize) {
+    let before = (text.to_vec(), records.to_vec());
+    let rows = count.min(records.len() / RECORD);
+    let mut numbers = some_numbers(random, rows);
+    numbers.extend([0, count, count.wrapping_add(1), usize::MAX / RECORD + 2]);
+    for (at, &first) in numbers.iter().enumerate() {
+        for &second in &numbers[at..] {
+            tally.add(compare_mattered(text, records, count, first, second));
+        }
+    }
+    assert!((text, records) == (before.0.as_slice(), before.1.as_slice()), "a question wrote text or table");
+}
+
+/// A text that is accepted in a mode, with its tables.
+struct Accepted {
+    mode: u32,
+    text: Vec<u8>,
+    records: Vec<u32>,
+    reals: Vec<f64>,
+    pairs: Vec<u32>,
+}
+
+impl Accepted {
+    /// Of most of these the text can be cut.
+    fn any(random: &mut Random) -> Accepted {
+        loop {
+            let case = if random.percent(75) { scenes::lined(random) } else { scenes::case(random) };
+            let (mut records, mut reals) = (vec![1; RECORD * scene::MOST_RECORDS], vec![1.0; scene::MOST_REALS]);
+            let mut pairs = vec![1; pairs_needed(records.len())];
+            if let Ok(counts) = scene::read(case.is_archive(), &case.text, &mut records, &mut reals, &mut pairs) {
+                records.truncate(RECORD * counts.primitives);
+                reals.truncate(counts.reals);
+                pairs.truncate(PAIR * counts.primitives);
+                return Accepted { mode: case.mode, text: case.text, records, reals, pairs };
+            }
+        }
+    }
+
+    fn count(&self) -> usize {
+        self.records.len() / RECORD
+    }
+
+    fn source(&self) -> Source<'_> {
+        Source { mode: self.mode, text: &self.text, records: &self.records, reals: &self.reals }
+    }
+
+    fn keys(&self) -> Vec<Key<'_>> {
+        Save { text: &self.text, records: &self.records, reals: &self.reals }.keys()
+    }
+
+    fn is_held(&self, first: usize, second: usize) -> bool {
+        let (outcome, _) = raw::mattered(&self.text, &self.records, self.count(), first, second);
+        assert!(outcome <= 1, "{outcome} for {first} and {second} in {:?}", String::from_utf8_lossy(&self.text));
+        outcome == 1
+    }
+
+    /// Every two of its numbers, or some.
+    fn every_two(&self, random: &mut Random) -> Vec<(usize, usize)> {
+        let numbers = some_numbers(random, self.count());
+        let below = |first: usize| numbers.iter().copied().filter(move |&second| second > first);
+        numbers.iter().flat_map(|&first| below(first).map(move |second| (first, second))).collect()
+    }
+}
+
+#[test]
+fn order_mattered_alike() {
+    let mut random = random(23);
+    let mut read = Tally::new("orders in read tables (0 free, 1 held by a bond, 2 over several)");
+    let mut damaged = Tally::new("orders in damaged tables (0 free, 1 held by a bond, 2 over several)");
+    for _ in 0..scene_count() / 8 {
+        let scene = Accepted::any(&mut random);
+        let (text, count) = (scene.text.as_slice(), scene.count());
+        compare_orders(&mut random, &mut read, text, &scene.records, count);
+        let mut spoiled = scene.records.clone();
+        spoiled.truncate(spoiled.len().saturating_sub(random.below(3)));
+        scenes::spoil_table(&mut random, &mut spoiled);
+        let text = &text[..text.len() - random.below(text.len().min(3) + 1)];
+        let count = stated_count(&mut random, count);
+        compare_orders(&mut random, &mut damaged, text, &spoiled, count);
+    }
+    read.report([0, 1, FURTHER, 17], 10_000);
+    damaged.report([0, 1, FURTHER, 17, 18], 10_000);
+}
+
+/// Tables that no reading gave, of which most can be asked about but for one number.
+#[test]
+fn order_in_any_table_mattered_alike() {
+    let mut random = random(24);
+    let mut tally = Tally::new("orders in made tables (0 free, 1 held by a bond, 2 over several)");
+    for _ in 0..scene_count() / 4 {
+        let (text, records) = scenes::bound_table(&mut random);
+        let rows = records.len() / RECORD;
+        let count = if random.percent(80) { rows } else { stated_count(&mut random, rows) };
+        compare_orders(&mut random, &mut tally, &text, &records, count);
+        let any = scenes::table(&mut random, text.len());
+        let count = stated_count(&mut random, any.len() / RECORD);
+        compare_orders(&mut random, &mut tally, &text, &any, count);
+    }
+    tally.report([0, 1, FURTHER, 17, 18], 10_000);
+}
+
+/// A pair is held exactly where the closure of the bonds says so, which are found in the words of the text and not in its tables.
+#[test]
+fn order_is_held_by_chains_alone() {
+    let mut random = random(25);
+    let mut tally = Tally::new("orders by the closure (0 free, 1 held)");
+    for _ in 0..scene_count() / 8 {
+        let scene = Accepted::any(&mut random);
+        let holds = order::closure(&scene.text);
+        assert_eq!(holds.len(), scene.count());
+        for (first, second) in scene.every_two(&mut random) {
+            let (held, text) = (holds[first - 1][second - 1], String::from_utf8_lossy(&scene.text));
+            assert_eq!(scene.is_held(first, second), held, "{first} and {second} in {text:?}");
+            tally.add(u32::from(held));
+        }
+    }
+    tally.report([0, 1], 10_000);
+}
+
+#[test]
+fn sorting_keeps_what_is_held() {
+    let mut random = random(26);
+    let mut tally = Tally::new("orders in sorted texts (0 free and kept, 1 held, 2 free and turned)");
+    for _ in 0..scene_count() / 8 {
+        let scene = Accepted::any(&mut random);
+        let mut sorted = vec![0; scene.text.len()];
+        if raw::sort(scene.mode, &scene.text, &scene.records, &scene.reals, &mut sorted).0 != 0 {
+            continue;
+        }
+        let (records, reals) = tables_of(scene.mode, &sorted, 0);
+        // Statements of one name keep their order, so a key has the same statement in both texts
+        let keys = Save { text: &sorted, records: &records, reals: &reals }.keys();
+        let numbers: BTreeMap<Key, usize> = keys.into_iter().zip(1..).collect();
+        let moved: Vec<usize> = scene.keys().iter().map(|key| numbers[key]).collect();
+        for (first, second) in scene.every_two(&mut random) {
+            let (held, turned) = (scene.is_held(first, second), moved[first - 1] > moved[second - 1]);
+            let shown = || [&scene.text, &sorted].map(|text| String::from_utf8_lossy(text).into_owned());
+            assert!(!(held && turned), "{first} and {second} in {:?}", shown());
+            tally.add(if turned { 2 } else { u32::from(held) });
+        }
+    }
+    tally.report(0..=2, 10_000);
+}
+
+/// Two neighbours whose order is free are exchanged, and nothing tells the text from the other. Their names differ, as keys would tell two
+/// surfaces of one name.
+#[test]
+fn free_neighbours_can_be_exchanged() {
+    let mut random = random(27);
+    let (mut texts, mut exchanged) = (0, 0);
+    for _ in 0..scene_count() / 8 {
+        let scene = Accepted::any(&mut random);
+        let Ok(mut blocks) = sort::blocks(&scene.text) else { continue };
+        texts += 1;
+        let keys = scene.keys();
+        for (upper, lower) in scene.every_two(&mut random) {
+            let name = |number: usize| keys[number - 1].0;
+            if lower > upper + 1 || name(upper) == name(lower) || scene.is_held(upper, lower) {
+                continue;
+            }
+            blocks.swap(upper - 1, lower - 1);
+            read_reordered(scene.source(), &scene.pairs, [scene.count(), scene.reals.len()], &blocks.concat());
+            blocks.swap(upper - 1, lower - 1);
+            exchanged += 1;
+        }
+    }
+    say(&format!("free neighbours exchanged: {exchanged} in {texts} texts, no line"));
+    assert!(texts < 1_000 || exchanged > texts, "too few neighbours are exchanged");
+}
+
+/// What the order of two of a text's primitives is held by, with the giver of the name and how many bonds there are.
+fn held_in(text: &[u8], first: usize, second: usize) -> Result<Option<order::Held>, u32> {
+    let (records, _) = tables_of(0, text, 0);
+    let count = records.len() / RECORD;
+    compare_mattered(text, &records, count, first, second);
+    order::mattered(text, &records, count, first, second)
+}
+
+/// Two primitives, and by, giver and bonds if their order is held.
+type Verdict = ([usize; 2], Option<[usize; 3]>);
+
+/// Statements, one on a line, and verdicts on them.
+const VERDICTS: [(&[&str], &[Verdict]); 9] = [
+    // Two finishes of one name and a panel of each: every two are held, the panels by the second finish
+    (
+        &[
+            "void plastic a 0 0 5 1 1 1 0 0",
+            "a sphere s 0 0 4 0 0 0 1",
+            "void plastic a 0 0 5 1 1 1 0 0",
+            "a sphere t 0 0 4 0 0 0 1",
+        ],
+        &[
+            ([1, 2], Some([2, 1, 1])),
+            ([1, 3], Some([3, 1, 1])),
+            ([1, 4], Some([4, 1, 1])),
+            ([2, 3], Some([3, 3, 1])),
+            ([2, 4], Some([3, 3, 2])),
+            ([3, 4], Some([4, 3, 1])),
+        ],
+    ),
+    // Surfaces give no name: not to one another, not to a finish of that name, and not to what refers to it
+    (&["void ring a 0 0 8 0 0 0 0 0 1 0 1", "void sphere a 0 0 4 0 0 0 1"], &[([1, 2], None)]),
+    (
+        &["void light a 0 0 3 1 1 1", "void ring a 0 0 8 0 0 0 0 0 1 0 1", "a sphere s 0 0 4 0 0 0 1"],
+        &[([1, 2], None), ([2, 3], None), ([1, 3], Some([3, 1, 1]))],
+    ),
+    // Two that refer to one name are not bound by it; and of two shortest chains the one with the lower first step counts
+    (
+        &["void light a 0 0 3 1 1 1", "a light b 0 0 3 1 1 1", "a light c 0 0 3 1 1 1", "b alias d c"],
+        &[([2, 3], None), ([1, 4], Some([2, 1, 2])), ([2, 4], Some([4, 2, 1])), ([3, 4], Some([4, 3, 1]))],
+    ),
+    // A shorter chain goes before one with a lower first step
+    (
+        &[
+            "void light a 0 0 3 1 1 1",
+            "a light b 0 0 3 1 1 1",
+            "a light c 0 0 3 1 1 1",
+            "b light e 0 0 3 1 1 1",
+            "c alias d e",
+        ],
+        &[([1, 5], Some([3, 1, 2])), ([2, 5], Some([4, 2, 2])), ([3, 4], None)],
+    ),
+    // An alias refers to its modifier and to its target, whose name may be given again below
+    (
+        &["void light l 0 0 3 1 1 1", "void plastic p 0 0 5 1 1 1 0 0", "p alias k l", "void light l 0 0 3 1 1 1"],
+        &[
+            ([1, 2], None),
+            ([1, 3], Some([3, 1, 1])),
+            ([2, 3], Some([3, 2, 1])),
+            ([2, 4], Some([3, 2, 2])),
+            ([3, 4], Some([4, 4, 1])),
+        ],
+    ),
+    // Where both names bind, the upper one's is told
+    (
+        &["void light b 0 0 3 1 1 1", "b light a 0 0 3 1 1 1", "a light b 0 0 3 1 1 1"],
+        &[([2, 3], Some([3, 2, 1])), ([1, 3], Some([3, 1, 1]))],
+    ),
+    // Sides of mixtures and other strings bind nothing, above and below
+    (
+        &["void light q 0 0 3 1 1 1", "void mixfunc m 4 p q v f 0 0", "void plastic p 0 0 5 1 1 1 0 0"],
+        &[([1, 2], None), ([2, 3], None), ([1, 3], None)],
+    ),
+    (&["void mirror m 1 p 0 3 1 1 1", "void light p 0 0 3 1 1 1"], &[([1, 2], None)]),
+];
+
+#[test]
+fn verdicts_on_order_are_alike() {
+    for (lines, verdicts) in VERDICTS {
+        let text = [&lines.join("\n"), "\n"].concat();
+        for ([first, second], expected) in verdicts {
+            let held = expected.map(|[by, giver, bonds]| order::Held { by, giver, bonds });
+            assert_eq!(held_in(text.as_bytes(), *first, *second), Ok(held), "{first} and {second} in {text:?}");
+        }
+    }
+}
+
+/// The count is looked at first, then both numbers, and then every primitive up to the count, whichever two are asked about.
+#[test]
+fn refusals_of_order_come_in_order() {
+    let text = b"void light l 0 0 3 1 1 1\nl light m 0 0 3 1 1 1\nm alias k l\n";
+    let (records, _) = tables_of(0, text, 0);
+    let outcome = |records: &[u32], count, first, second| compare_mattered(text, records, count, first, second);
+    assert_eq!(outcome(&records, 3, 1, 2), 1);
+    assert_eq!([4, 1_025, usize::MAX].map(|count| outcome(&records, count, 0, 0)), [18; 3]);
+    assert_eq!(outcome(&records[..3 * RECORD - 1], 3, 1, 2), 18);
+    assert_eq!([[0, 1], [1, 4], [4, 5], [usize::MAX, 1], [2, 2]].map(|[a, b]| outcome(&records, 3, a, b)), [17; 5]);
+    let name = records[2 * RECORD + 3];
+    let len = text.len() as u32;
+    // Of the third: its modifier or target is itself, or far above; its name is empty, ends a byte too late, or begins past the end
+    let faults =
+        [(1, 3), (1, u32::MAX), (2, 3), (2, 4), (4, 0), (4, len - name + 1), (4, u32::MAX), (3, len), (3, u32::MAX)];
+    for (at, number) in faults {
+        let mut spoiled = records.clone();
+        spoiled[2 * RECORD + at] = number;
+        assert_eq!(outcome(&spoiled, 3, 1, 2), 18, "{number} at {at}");
+        assert_eq!([[0, 1], [2, 2], [3, 4]].map(|[a, b]| outcome(&spoiled, 3, a, b)), [17; 3], "{number} at {at}");
+        assert_eq!(outcome(&spoiled, 2, 1, 2), 1, "{number} at {at}");
+    }
+    let mut last = records.clone();
+    last[2 * RECORD + 4] = len - name;
+    assert_eq!(outcome(&last, 3, 1, 2), 1);
+    // Names are told apart by their bytes: the second's, when its modifier is gone, is put where the first's is, and then made longer
+    let mut same = records.clone();
+    same[RECORD + 1] = 0;
+    assert_eq!(outcome(&same, 3, 1, 2), 0);
+    same[RECORD + 3] = records[3];
+    assert_eq!(outcome(&same, 3, 1, 2), 1);
+    same[RECORD + 4] = 2;
+    assert_eq!(outcome(&same, 3, 1, 2), 0);
+}
+
+/// As many primitives as there may be: each under the one above it, all of one name, and with no name in common.
+#[test]
+fn order_of_most_primitives_mattered_alike() {
+    let most = scene::MOST_RECORDS;
+    let names: Vec<_> = (1..=most).map(|number| format!("l{number}").into_bytes()).collect();
+    let above = [b"void".as_slice()].into_iter().chain(names.iter().map(Vec::as_slice));
+    let chained = above.zip(&names).map(|(modifier, name)| light(modifier, name)).collect::<Vec<_>>().concat();
+    let apart = names.iter().map(|name| light(b"void", name)).collect::<Vec<_>>().concat();
+    let held = |by, giver, bonds| Ok(Some(order::Held { by, giver, bonds }));
+    assert_eq!(held_in(&chained, 1, most), held(2, 1, most - 1));
+    assert_eq!(held_in(&chained, most, most - 1), held(most, most - 1, 1));
+    assert_eq!(held_in(&full(most), 1, most), held(most, 1, 1));
+    assert_eq!(held_in(&apart, 1, most), Ok(None));
+    assert_eq!(held_in(&chained, most, most + 1), Err(17));
+    let (records, _) = tables_of(0, &chained, 0);
+    let longer = [records.as_slice(), &records[records.len() - RECORD..]].concat();
+    assert_eq!(compare_mattered(&chained, &longer, most, most, 1), FURTHER);
+    assert_eq!(compare_mattered(&chained, &longer, most + 1, most, 1), 18);
 }
 
 // ---- words

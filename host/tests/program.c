@@ -1,5 +1,5 @@
-/* A host program in C: reads a small scene, and prints its names, its finishes, its index, what its mixtures show, what is new in a
- * later save, its tidy text, its glass moved, its sorted text and a few float answers. */
+/* A host program in C: reads a small scene, and prints its names, its finishes, its index, what its mixtures show, where its order
+ * mattered, what is new in a later save, its tidy text, its glass moved, its sorted text and a few float answers. */
 #include "kribbelsteen.h"
 
 #include <math.h>
@@ -70,6 +70,34 @@ static void print_shown(const char *scene, size_t room, size_t pair_room) {
     printf("shown %zu: %u %zu", number, (unsigned)reason, listed[0]);
     reason = kribbelsteen_shown(records, ROOM * KRIBBELSTEEN_RECORD, pairs, 3, 2, 1, list, room, listed);
     printf(", pairs short: %u %zu\n", (unsigned)reason, listed[0]);
+}
+
+static void print_order(const char *scene) {
+    const uint8_t *text = (const uint8_t *)scene;
+    size_t len = strlen(scene), counts[3], held[2], name[2], first, second;
+    uint32_t outcome;
+    kribbelsteen_read(KRIBBELSTEEN_NEW, text, len, records, ROOM * KRIBBELSTEEN_RECORD, reals, 32, pairs, ROOM * KRIBBELSTEEN_PAIR,
+                      counts);
+    for (first = 1; first <= counts[1]; first++) {
+        for (second = counts[1]; second > first; second--) {
+            outcome = kribbelsteen_mattered(text, len, records, ROOM * KRIBBELSTEEN_RECORD, counts[1], second, first, held);
+            printf("order of %zu and %zu: %u, %zu %zu", first, second, (unsigned)outcome, held[0], held[1]);
+            if (outcome == KRIBBELSTEEN_HELD) {
+                kribbelsteen_name(text, len, records, ROOM * KRIBBELSTEEN_RECORD, counts[1], held[1], name);
+                printf(", %.*s", (int)name[1], scene + name[0]);
+            }
+            printf("\n");
+        }
+    }
+    for (first = 0; first <= 1; first++) {
+        outcome = kribbelsteen_mattered(text, len, records, ROOM * KRIBBELSTEEN_RECORD, counts[1], first, 1, held);
+        printf("order of %zu and 1: %u, %zu %zu\n", first, (unsigned)outcome, held[0], held[1]);
+    }
+    outcome = kribbelsteen_mattered(text, len, records, ROOM * KRIBBELSTEEN_RECORD, ROOM + 1, 1, 2, held);
+    printf("order, %d stated: %u, %zu %zu\n", ROOM + 1, (unsigned)outcome, held[0], held[1]);
+    records[KRIBBELSTEEN_ALIAS] = 1;
+    outcome = kribbelsteen_mattered(text, len, records, ROOM * KRIBBELSTEEN_RECORD, counts[1], 2, 3, held);
+    printf("order, 1 its own alias: %u, %zu %zu\n", (unsigned)outcome, held[0], held[1]);
 }
 
 static uint32_t later_records[ROOM * KRIBBELSTEEN_RECORD];
@@ -240,6 +268,10 @@ int main(void) {
                         "border sphere knob 0 0 4 0 0 0 1\n"
                         "inlay sphere foot 0 0 4 0 0 0 1\n"
                         "void plastic ash 0 0 5 .7 .6 .5 0 0\n";
+    const char *desk = "void plastic deskfront 0 0 5 .52 .36 .2 .03 .1\n"
+                       "deskfront sphere left_knob 0 0 4 0 0 0 .02\n"
+                       "void metal deskfront 0 0 5 .5 .5 .52 .8 .05\n"
+                       "deskfront sphere right_knob 0 0 4 1 0 0 .02\n";
     const char *panes = "void glass clear 0 0 3 .96 .96 .96\nvoid glass grey 0 0 4 .5 .5 .5 1.52\n";
     const char *old = "void antimatter hole 1 void 0 0\nhole alias slot hole\n";
     print_scene(KRIBBELSTEEN_NEW, sample);
@@ -257,6 +289,8 @@ int main(void) {
     print_shown(mixed, 1, ROOM * KRIBBELSTEEN_PAIR - 1);
     print_shown("void mixfunc m 4 m oak v f 0 0", 0, ROOM * KRIBBELSTEEN_PAIR);
     print_shown("void mixfunc m 4 m void v f 0 0", 0, ROOM * KRIBBELSTEEN_PAIR);
+    print_order(desk);
+    print_order(mixed);
     print_changes(sample, later);
     print_changes(later, sample);
     print_changes(sample, "!");

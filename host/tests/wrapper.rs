@@ -156,6 +156,33 @@ fn a_scene_shows_materials() {
 }
 
 #[test]
+fn order_mattered_or_did_not() {
+    let (mut records, mut reals, mut pairs) = ([9; RECORD * 5], [9.0; 17], [9; PAIR * 5]);
+    let scene = Scene::read(Mode::New, SAMPLE, &mut records, &mut reals, &mut pairs).expect("well-formed");
+    let held = |by, giver, name: &'static [u8]| Ok(Order::Held { by, giver, name });
+    assert_eq!(scene.mattered(1, 2), held(2, 1, b"wall"));
+    assert_eq!([scene.mattered(1, 5), scene.mattered(5, 1)], [held(3, 1, b"wall"); 2]);
+    assert_eq!(scene.mattered(3, 5), held(5, 3, b"lamp"));
+    // A side of the lamp is the trim, which holds nothing
+    assert_eq!([scene.mattered(3, 4), scene.mattered(5, 4)], [Ok(Order::Free); 2]);
+    for (first, second) in [(0, 1), (1, 0), (6, 5), (5, usize::MAX), (2, 2)] {
+        assert_eq!(scene.mattered(first, second), Err(Question::NoSuchPrimitive), "{first}, {second}");
+    }
+    let refusal = Question::NoSuchPrimitive.to_string();
+    assert_eq!(refusal, "no primitive has this number, or it is given twice (reason 17)");
+    assert_eq!(mattered(SAMPLE, &records, 6, 0, 0), Err(Question::BadTable));
+    assert_eq!(mattered(&SAMPLE[..20], &records, 1, 1, 1), Err(Question::NoSuchPrimitive));
+    assert_eq!(mattered(SAMPLE, &records, 3, 3, 2), held(3, 2, b"wall"));
+    assert_eq!(mattered(&SAMPLE[..90], &records, 3, 3, 2), Err(Question::BadTable));
+    records[RECORD * 4 + 1] = 5;
+    assert_eq!(mattered(SAMPLE, &records, 5, 1, 2), Err(Question::BadTable));
+    assert_eq!(mattered(SAMPLE, &records, 4, 1, 2), held(2, 1, b"wall"));
+    let ((mut a, mut x), (mut b, mut y)) = (([9; RECORD * 5], [9.0; 17]), ([9; RECORD * 4], [9.0; 17]));
+    let saves = Saves::read(Mode::New, SAMPLE, &mut a, &mut x, UNSORTED, &mut b, &mut y).expect("both are well-formed");
+    assert_eq!((saves.left.mattered(1, 5), saves.right.mattered(2, 4)), (held(3, 1, b"wall"), held(4, 4, b"wall")));
+}
+
+#[test]
 fn a_side_is_missing_or_leads_in_a_loop() {
     let (mut records, mut reals, mut pairs) = ([9; RECORD * 3], [9.0; 5], [9; PAIR * 3]);
     let mut refusal = |text: &[u8]| {

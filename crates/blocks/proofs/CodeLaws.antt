@@ -17,7 +17,8 @@ use Rattle.laws.proofs.NatLaws.{le-or-lt}
 use Rattle.laws.specs.Runs.{past}
 use Rattle.lexer.specs.Class.{isInLine}
 use Rattle.lexer.specs.Word.{behindWords}
-use Rattle.rearrangement.specs.Blocks.{Verdict, can, cannot, behindLine, firstWord, linesEnd, orElse, uncrowded}
+use Rattle.rearrangement.specs.Blocks.{Verdict, can, cannot, behindLine, linesEnd, orElse, uncrowded}
+use Rattle.rearrangement.specs.Layout.{firstWord}
 use Rattle.scene.specs.Record.{recordIn}
 
 -- ---- the words of a record, and the place behind them

@@ -12,7 +12,8 @@ use Rattle.laws.specs.Bytes.{Bytes}
 use Rattle.lexer.specs.Word.{behindWords}
 use Rattle.rearrangement.proofs.BlockLaws.{lines-end}
 use Rattle.rearrangement.proofs.LayoutLaws.{Laid, Stands, endOf, laid, tailWords}
-use Rattle.rearrangement.specs.Blocks.{behindLine, blockEnd, blockEnds, crowded, firstWord, linesEnd, orElse, uncrowded, unended, verdict}
+use Rattle.rearrangement.specs.Blocks.{behindLine, blockEnd, blockEnds, crowded, linesEnd, orElse, uncrowded, unended, verdict}
+use Rattle.rearrangement.specs.Layout.{firstWord}
 use Rattle.scene.proofs.ImageLaws.{record-is}
 use Rattle.scene.proofs.PropertyLaws.{accepted-linked}
 use Rattle.scene.proofs.SwapLaws.{Linked, bodyLink}

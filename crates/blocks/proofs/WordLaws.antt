@@ -15,7 +15,8 @@ use Rattle.laws.specs.Bytes.{Bytes, byte}
 use Rattle.laws.specs.Runs.{run, past}
 use Rattle.lexer.proofs.ClassLaws.{in-line}
 use Rattle.lexer.specs.Class.{isBlank, isInLine}
-use Rattle.rearrangement.specs.Blocks.{firstWord, lead, linesEnd}
+use Rattle.rearrangement.specs.Blocks.{linesEnd}
+use Rattle.rearrangement.specs.Layout.{firstWord, lead}
 
 -- ---- blanks and comments
 

@@ -10,7 +10,8 @@ use Rattle.blocks.specs.declared.Cut.{Cut}
 use Rattle.blocks.specs.declared.Cut.the-variants.{Made, Refused}
 use Rattle.laws.specs.Bytes.{Bytes}
 use Rattle.lexer.specs.Word.{behindWords}
-use Rattle.rearrangement.specs.Blocks.{Verdict, behindLine, can, cannot, firstWord, linesEnd, orElse, uncrowded, unended}
+use Rattle.rearrangement.specs.Blocks.{Verdict, behindLine, can, cannot, linesEnd, orElse, uncrowded, unended}
+use Rattle.rearrangement.specs.Layout.{firstWord}
 use Rattle.scene.specs.Record.{recordIn}
 
 -- how many words record n has from its name on

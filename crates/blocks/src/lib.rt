@@ -1,7 +1,8 @@
 // Where the blocks of a text end, one for each record of its table. Tables may hold anything.
 ghost use mathlib.Core.Path.{_≡_};
 ghost use lib.ListN.{length, replicate};
-ghost use Rattle.rearrangement.specs.Blocks.{behindLine, firstWord, linesEnd};
+ghost use Rattle.rearrangement.specs.Blocks.{behindLine, linesEnd};
+ghost use Rattle.rearrangement.specs.Layout.{firstWord};
 ghost use Rattle.blocks.specs.Code.{Cuts, crowdedCut, endIn, endsTo, tailIn};
 
 // The text can be cut, or why not, and where.

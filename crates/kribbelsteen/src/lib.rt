@@ -1,6 +1,6 @@
 // The entry points for host programs, under C's calling convention: numbers, slices and small arrays, no precondition. Each is
 // the call of the same promise in `host_reading`, `host_scenes`, `host_shown`, `host_saves`, `host_lines`, `host_writing`,
-// `host_moving`, `host_sorting`, `host_rays`, `host_polygon`, `host_pane`, `ranks` or `root`.
+// `host_moving`, `host_sorting`, `host_precedence`, `host_rays`, `host_polygon`, `host_pane`, `ranks` or `root`.
 ghost use mathlib.Core.List.{[], _∷_};
 ghost use mathlib.Core.Path.{_≡_};
 ghost use lib.ListN.{length, replicate};
@@ -24,6 +24,7 @@ ghost use Rattle.ordered.specs.Lines.{scene};
 ghost use Rattle.pane.specs.Factors.{factorsOf};
 ghost use Rattle.pane.specs.Transmissivity.{transmissivityOf};
 ghost use Rattle.polygon.specs.Polygon.{polygonHit};
+ghost use Rattle.precedence.specs.Answer.{kindOf, orderOf, valuesOf};
 ghost use Rattle.ranks.specs.Rank.{orderTable};
 ghost use Rattle.root.specs.Root.{rootOf};
 ghost use Rattle.shown.specs.List.{shownList};
@@ -252,6 +253,23 @@ pub extern "C" fn kribbelsteen_sort(
     ensures { λ r. ⌜ HostSorts mode (now (text .entry)) (now (records .entry)) (now (reals .entry)) (now (out .entry)) r (now (answer .exit)) (now (out .exit)) ⌝ }
 {
     host_sorting::tell_sorted(mode, text, records, reals, out, answer)
+}
+
+// Whether the order of two entries mattered: 0 free, 1 held, or the refusal's number, and the entry that a chain goes to first, with the
+// one whose name binds.
+#[no_mangle]
+pub extern "C" fn kribbelsteen_mattered(
+    text: &[u8],
+    records: &[u32],
+    count: usize,
+    first: usize,
+    second: usize,
+    answer: &mut [usize; 2],
+) -> u32
+    ensures { λ r. ⌜ r ≡ kindOf (orderOf (now (text .entry)) (now (records .entry)) count first second) ⌝ }
+    ensures { λ _. ⌜ now (answer .exit) ≡ valuesOf (orderOf (now (text .entry)) (now (records .entry)) count first second) ⌝ }
+{
+    host_precedence::tell_order(text, records, count, first, second, answer)
 }
 
 // A ray on a sphere: 0 hit, 1 miss, or the refusal's number, and the distance.

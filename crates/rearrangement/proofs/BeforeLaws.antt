@@ -9,9 +9,8 @@ use native.Mathlib.Omega.{arith}
 use borrow.Author.Tests.{eq-eqb, ne-eqb}
 use lib.Dec.{eqb}
 use lib.ListN.{length, length-append}
-use Rattle.rearrangement.proofs.ClearLaws.{saids}
 use Rattle.rearrangement.proofs.PieceLaws.{In, Rising, rising-low}
-use Rattle.rearrangement.specs.Cut.{Piece}
+use Rattle.rearrangement.specs.Cut.{Piece, saids}
 use Rattle.rearrangement.specs.Order.{statementsBefore}
 
 -- no block of xs has that number

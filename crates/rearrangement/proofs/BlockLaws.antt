@@ -7,7 +7,7 @@ use mathlib.Core.Option.{Option, none, some}
 use mathlib.Core.Path.{_≡_, refl, ap, sym, _∙_, subst}
 use Prim.Native.Nat.{ℕ, suc, _+_, _-_, _≤_, _<_}
 use native.Mathlib.Omega.{arith}
-use borrow.Author.Tests.{eq-eqb, eqb-true, le-ltb, ltb-false, ne-eqb, not-false}
+use borrow.Author.Tests.{eqb-true, le-ltb, ltb-false, not-false}
 use lib.Dec.{ltb}
 use lib.ListN.{length, take, drop, getD, length-append, length-drop, take-append-drop}
 use lib.Seq.{append-snoc, drop-append-le, getD-append-seam, getD-drop, take-add, take-suc}
@@ -23,9 +23,7 @@ use Rattle.rearrangement.specs.Blocks.{allBlocks, behindBlocks, behindLi
 use Rattle.rearrangement.specs.Cut.{Cut, Piece, joined, pieces}
 use Rattle.scene.proofs.BlockLaws.{ends-append, in-after, in-all, in-append, in-before}
 use Rattle.scene.proofs.EdgeLaws.{LineStart, Range}
-use Rattle.scene.proofs.TellsLaws.{statements-length}
 use Rattle.scene.specs.Block.{CutsNone, EndsLine, inBlock}
-use Rattle.scene.specs.Properties.{numbered}
 use Rattle.scene.specs.Reading.{Entry, newline, statements}
 use Rattle.scene.specs.Statement.{Statement}
 

@@ -2,17 +2,13 @@
 use mathlib.Core.List.{List, [], _∷_, _++_, append-assoc, append-nil}
 use mathlib.Core.Path.{_≡_, ap, sym, _∙_}
 use Rattle.laws.specs.Bytes.{Bytes}
-use Rattle.rearrangement.specs.Cut.{Piece}
+use Rattle.rearrangement.specs.Cut.{Piece, saids}
 use Rattle.rearrangement.specs.Order.{Apart}
 use Rattle.scene.proofs.IndependentLaws.{clear-first, clear-second}
 use Rattle.scene.proofs.SwapLaws.{Absent, BodyAbsent, Clear}
 use Rattle.scene.specs.Statement.{Body, Statement, alias, primitive}
 
--- ---- what blocks say, latest first
-
-unfoldable pub saids : List Piece → List Statement
-saids [] = []
-saids (b ∷ bs) = saids bs ++ b .said
+-- ---- what blocks say
 
 pub saids-append : (xs ys : List Piece) → saids (xs ++ ys) ≡ saids ys ++ saids xs
 unfolding saids

@@ -8,9 +8,8 @@ use lib.ListN.{length, length-append}
 use Rattle.laws.specs.Bytes.{Bytes}
 use Rattle.laws.specs.Shuffle.{Shuffle}
 use Rattle.lexer.specs.Class.{isBlank}
-use Rattle.rearrangement.proofs.ClearLaws.{saids}
 use Rattle.rearrangement.proofs.PieceLaws.{Rising}
-use Rattle.rearrangement.specs.Cut.{Cut, Piece, joined, pieces, textOf}
+use Rattle.rearrangement.specs.Cut.{Cut, Piece, joined, pieces, saids, textOf}
 use Rattle.scene.proofs.BlockLaws.{ends-append, idle-parse, in-after, in-all, in-append, in-before, join, piece, statements-append}
 use Rattle.scene.proofs.EdgeLaws.{Edge, LineStart, Range, Since, edge, since-edge, since-start}
 use Rattle.scene.proofs.SyntaxLaws.{parse, pass}

@@ -8,9 +8,9 @@ use native.Mathlib.Omega.{arith}
 use lib.ListN.{length, length-append}
 use Rattle.laws.specs.Shuffle.{Shuffle}
 use Rattle.rearrangement.proofs.BeforeLaws.{before-in, before-other, before-past, before-same}
-use Rattle.rearrangement.proofs.ClearLaws.{Free, saids, saids-append}
+use Rattle.rearrangement.proofs.ClearLaws.{Free, saids-append}
 use Rattle.rearrangement.proofs.PieceLaws.{In, Rising, free-of, in-cases, in-left, in-right, rising-first, rising-last, rising-less, rising-low, rising-out, shuffle-in}
-use Rattle.rearrangement.specs.Cut.{Piece}
+use Rattle.rearrangement.specs.Cut.{Piece, saids}
 use Rattle.rearrangement.specs.Order.{OrderedBy, statementsBefore}
 use Rattle.scene.proofs.SwapLaws.{shift-first, shift-high, shift-low, shift-second}
 use Rattle.scene.specs.Block.{shift}

@@ -1,5 +1,5 @@
 -- Statements that are not held.
-use mathlib.Core.Bool.{false, _||_}
+use mathlib.Core.Bool.{false}
 use mathlib.Core.List.{[], _∷_, _++_}
 use mathlib.Core.Path.{_≡_}
 use Rattle.laws.proofs.BoolLaws.{or-false-left, or-false-right}
@@ -15,6 +15,10 @@ module _ (s t : Statement) where
     first = or-false-left (share (given (s ∷ [])) (given (t ∷ []) ++ referred (t ∷ []))) (share (given (t ∷ [])) (given (s ∷ []) ++ referred (s ∷ []))) e;
     second = or-false-right (share (given (s ∷ [])) (given (t ∷ []) ++ referred (t ∷ []))) (share (given (t ∷ [])) (given (s ∷ []) ++ referred (s ∷ []))) e;
   }
+
+  pub independent-unbound : Independent (s ∷ []) (t ∷ []) → bound s t ≡ false
+  unfolding bound
+  independent-unbound h = rw (h .first, h .second)
 
   pub unheld-independent : held s t ≡ false → Independent (s ∷ []) (t ∷ [])
   unfolding held

@@ -18,7 +18,7 @@ use Rattle.lexer.specs.Class.{isBlank, isOther}
 use Rattle.lexer.specs.Word.{behindWords, wordAt, wordEnd, wordFault}
 use Rattle.numeral.specs.Count.{countOf}
 use Rattle.numeral.specs.Numeral.{Answer, value, refusal, numeralOf}
-use Rattle.rearrangement.specs.Blocks.{firstWord, lead}
+use Rattle.rearrangement.specs.Layout.{firstWord, lead}
 use Rattle.scene.proofs.AcceptLaws.{read-inv}
 use Rattle.scene.proofs.EdgeLaws.{LineStart, edge, part-noted}
 use Rattle.scene.proofs.KeptLaws.{more, more-length, snoc}

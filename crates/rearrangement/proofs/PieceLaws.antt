@@ -45,7 +45,7 @@ shuffle-in (c ∷ new) old b (xs, ys, e, k) h = go (in-cases b c xs ys (subst (I
     go (inr (inr q)) ih = inr (ih (in-right b xs ys q))
 
 module _ (R : Piece → Piece → Type 0) where
-  passes-in : (c : Piece) (bs : List Piece) (b : Piece) → Passes R c bs → In b bs → b .number < c .number → R b c
+  pub passes-in : (c : Piece) (bs : List Piece) (b : Piece) → Passes R c bs → In b bs → b .number < c .number → R b c
   passes-in c [] b h i l = absurd i
   passes-in c (x ∷ bs) b h (inl e) l = subst (λ (y : Piece). R y c) (sym e) (h .0 (subst (λ (y : Piece). y .number < c .number) e l))
   passes-in c (x ∷ bs) b h (inr i) l = passes-in c bs b (h .1) i l
@@ -66,7 +66,7 @@ rising-low lo [] b h i = absurd i
 rising-low lo (x ∷ bs) b h (inl e) = subst (λ (y : Piece). lo ≤ y .number) (sym e) (h .0)
 rising-low lo (x ∷ bs) b h (inr i) = let k = rising-low (suc (x .number)) bs b (h .1) i in let l = h .0 in omega arith
 
-rising-drop : (lo lo′ : ℕ) (bs : List Piece) → lo′ ≤ lo → Rising lo bs → Rising lo′ bs
+pub rising-drop : (lo lo′ : ℕ) (bs : List Piece) → lo′ ≤ lo → Rising lo bs → Rising lo′ bs
 rising-drop lo lo′ [] l h = tt
 rising-drop lo lo′ (b ∷ bs) l h = (let k = h .0 in omega arith, h .1)
 

@@ -1,5 +1,5 @@
 -- Every rearrangement of blocks that keeps the order of dependent ones changes nothing but numbering.
-use mathlib.Core.List.{List, [], _∷_, _++_, append-nil}
+use mathlib.Core.List.{List, [], _∷_, append-nil}
 use mathlib.Core.Logic.{inl}
 use mathlib.Core.Path.{_≡_, refl, ap, sym, _∙_, subst, subst₂}
 use Prim.Native.Nat.{_+_}
@@ -9,18 +9,16 @@ use lib.Dec.{leb}
 use lib.ListN.{length}
 use Rattle.laws.specs.Bytes.{Bytes}
 use Rattle.laws.specs.Shuffle.{Shuffle}
-use Rattle.rearrangement.proofs.ClearLaws.{free-clear, saids}
+use Rattle.rearrangement.proofs.ClearLaws.{free-clear}
 use Rattle.rearrangement.proofs.CutLaws.{Read, length-shuffle, pieces-read, pieces-rise, pieces-text, read-lines, read-shuffle, start-cuts-none}
 use Rattle.rearrangement.proofs.FrontLaws.{Chain, Turned, turned}
 use Rattle.rearrangement.proofs.PieceLaws.{In, in-right}
 use Rattle.rearrangement.proofs.WayLaws.{Way, way-same, way-swap, way-then}
-use Rattle.rearrangement.specs.Cut.{Cut, Piece, joined, pieces, textOf}
+use Rattle.rearrangement.specs.Cut.{Cut, Piece, joined, pieces, saids, textOf}
 use Rattle.rearrangement.specs.Order.{Apart, Renumbering, statementsBefore}
 use Rattle.rearrangement.specs.Rearranged.{RearrangeLaw, Rearranged}
 use Rattle.scene.proofs.AcceptLaws.{accept-back, accept-forth, read-inv}
-use Rattle.scene.proofs.SyntaxLaws.{parse, pass}
-use Rattle.scene.specs.Phase.{idle}
-use Rattle.scene.specs.Reading.{Entry, accepted, gap, newline, readStatements, statements}
+use Rattle.scene.specs.Reading.{Entry, accepted, newline, readStatements, statements}
 use Rattle.scene.specs.declared.Settings.{Settings}
 use Rattle.sides.proofs.ExchangeLaws.{Agrees, agrees}
 use Rattle.sides.proofs.MixedLaws.{resolved}
@@ -34,7 +32,7 @@ way-chain r = record {
   swap = λ P Q c xs free. let k = free-clear c xs free in way-swap r P (saids xs) (c .said) Q (k .0) (k .1);
 }
 
-renumbering : (r : Settings) (old new : List Piece) → Turned Apart (Way r) [] old new → Renumbering old new
+unfoldable pub renumbering : (r : Settings) (old new : List Piece) → Turned Apart (Way r) [] old new → Renumbering old new
 renumbering r old new d = record {
   number = d .number;
   back = d .back;

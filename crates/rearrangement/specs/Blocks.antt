@@ -1,14 +1,14 @@
 -- Which blocks a text is cut into: one for each statement, up to the end of the line of its last word. It starts where the block before it
 -- ends, so a comment belongs to the statement below it, and a comment behind a statement, on its last line, to that statement.
-use mathlib.Core.Bool.{Bool, true, false, cond}
+use mathlib.Core.Bool.{Bool, true, cond}
 use mathlib.Core.List.{List, [], _∷_, _++_}
 use mathlib.Core.Option.{Option, none, some}
-use Prim.Native.Nat.{ℕ, suc, _+_, _-_, min}
+use Prim.Native.Nat.{ℕ, suc, _-_, min}
 use lib.Dec.{eqb, ltb}
 use lib.ListN.{length, drop}
-use Rattle.laws.specs.Bytes.{Bytes, byte, part}
+use Rattle.laws.specs.Bytes.{Bytes, part}
 use Rattle.laws.specs.Runs.{past}
-use Rattle.lexer.specs.Class.{isBlank, isInLine}
+use Rattle.lexer.specs.Class.{isInLine}
 use Rattle.scene.specs.Reading.{Entry}
 
 -- the place behind the line of a place: behind the first byte 10 from there on, or the text's end
@@ -73,17 +73,3 @@ unended text = cannot 33 (length text)
 
 unfoldable pub verdict : Bytes → List Entry → Verdict
 verdict text es = cond (linesEnd text) (uncrowded (crowded text es)) (unended text)
-
--- ---- where the next statement begins
-
--- how many bytes of blanks and comments stand at the front of a text, in a comment or not
-unfoldable pub lead : (inComment : Bool) → Bytes → ℕ
-lead c [] = 0
-lead c (b ∷ t) =
-    let between = suc (lead false t) in
-    let inside = suc (lead true t) in
-    cond c (cond (eqb b 10) between inside) (cond (isBlank b) between (cond (eqb b (byte "#")) inside 0))
-
--- the first place from `at` on that is neither blank nor in a comment, or the text's length
-unfoldable pub firstWord : Bytes → (at : ℕ) → ℕ
-firstWord text at = min at (length text) + lead false (drop at text)

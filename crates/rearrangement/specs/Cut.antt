@@ -32,3 +32,8 @@ joined (t ∷ ts) = t ++ joined ts
 unfoldable pub textOf : List Piece → Bytes
 textOf [] = []
 textOf (b ∷ bs) = b .text ++ textOf bs
+
+-- what blocks say, latest first
+unfoldable pub saids : List Piece → List Statement
+saids [] = []
+saids (b ∷ bs) = saids bs ++ b .said

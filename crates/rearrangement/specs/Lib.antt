@@ -4,3 +4,5 @@ pub mod Order
 pub mod Rearranged
 pub mod Blocks
 pub mod Held
+-- Inner models of the proofs.
+pub mod Layout

@@ -1,7 +1,7 @@
 -- The sorting call on a text and its own tables.
 use mathlib.Core.Logic.{_⊎_, inl, inr}
 use mathlib.Core.List.{List}
-use mathlib.Core.Path.{_≡_, refl, ap, sym, _∙_}
+use mathlib.Core.Path.{_≡_, refl, ap, _∙_}
 use Prim.Native.Nat.{ℕ}
 use mathlib.Core.Bool.{Bool, true, false, cond}
 use mathlib.Core.Option.{Option, none, some}
@@ -17,7 +17,7 @@ use Rattle.sorter.specs.Answer.{ifCut, sortedOutcome}
 use Rattle.sorting.proofs.SortLaws.{cut-law, sort-law}
 use Rattle.sorting.specs.Sorted.{sortedText}
 use Rattle.writer.proofs.AgainLaws.{own-checked}
-use Rattle.writer.specs.Answer.{Outcome, fitted, refused}
+use Rattle.writer.specs.Answer.{fitted, refused}
 
 -- what a text that cannot be cut is refused by
 refusals : (text : Bytes) (es : List Entry) → (verdict text es ≡ can → ⊥) → (p : ℕ) × ((verdict text es ≡ cannot 33 p) ⊎ (verdict text es ≡ cannot 34 p))

@@ -5,6 +5,7 @@ use Prim.Native.Nat.{ℕ, _≤_, min}
 use native.Mathlib.Omega.{arith}
 use lib.Ieee.{Float}
 use lib.ListN.{length}
+use Rattle.block_text.specs.BlockText.{WritesBlocks, sortedIn}
 use Rattle.blocks.proofs.MeaningLaws.{ends-meant, verdict-meant}
 use Rattle.blocks.specs.Code.{Cuts, answerOf, endsTo, tableOf, verdictIn}
 use Rattle.blocks.specs.declared.Cut.{Cut}
@@ -18,12 +19,12 @@ use Rattle.scene.proofs.AcceptLaws.{accept-forth}
 use Rattle.scene.proofs.RoomLaws.{fit-forth}
 use Rattle.scene.proofs.TellsLaws.{statements-length}
 use Rattle.scene.specs.Reading.{Entry, accepted, readStatements, statements}
-use Rattle.scene.specs.Record.{filled, recordImage, settingsFor, width}
+use Rattle.scene.specs.Record.{filled, recordImage, settingsFor}
 use Rattle.scene.specs.declared.Mode.{Mode}
 use Rattle.scene.specs.declared.Settings.{Settings}
 use Rattle.sorter.proofs.MeaningLaws.{ends-length, sorted-meant}
 use Rattle.sorter.specs.Answer.{Sorts, ifCut, sortedOutcome}
-use Rattle.sorter.specs.Code.{WritesBlocks, WritesSorted, orderIn, sortedIn}
+use Rattle.sorter.specs.Code.{WritesSorted, orderIn}
 use Rattle.sorting.proofs.SortLaws.{verdict-can}
 use Rattle.sorting.specs.Sorted.{sortedText}
 use Rattle.writer.proofs.AnswerLaws.{refused-as, same-as}

@@ -1,4 +1,4 @@
 pub mod MeaningLaws
-pub mod CodeLaws
+pub mod OrderLaws
 pub mod AnswerLaws
 pub mod AgainLaws

@@ -6,6 +6,7 @@ use Prim.Native.Nat.{ℕ, zero, suc, _-_, _≤_, _<_, min}
 use native.Mathlib.Omega.{arith}
 use lib.ListN.{List·getD-append, drop, length, length-append}
 use lib.Seq.{getD-at}
+use Rattle.block_text.specs.BlockText.{blockIn, blocksIn, sortedIn}
 use Rattle.grouping.proofs.OrderLaws.{grouped-same}
 use Rattle.grouping.specs.Grouped.{grouped}
 use Rattle.laws.proofs.NatLaws.{le-or-lt}
@@ -15,7 +16,7 @@ use Rattle.rearrangement.specs.Held.{heldIn}
 use Rattle.scene.specs.Reading.{Entry, accepted, readStatements, statements}
 use Rattle.scene.specs.Record.{nth, recordImage, recordIn, records}
 use Rattle.scene.specs.declared.Settings.{Settings}
-use Rattle.sorter.specs.Code.{blockIn, blocksIn, orderIn, sortedIn}
+use Rattle.sorter.specs.Code.{orderIn}
 use Rattle.sorting.proofs.OwnLaws.{Among, at, at-before, at-last, blocks-length}
 use Rattle.sorting.proofs.ShuffleLaws.{All}
 use Rattle.sorting.proofs.SortLaws.{among}

@@ -9,9 +9,9 @@ use Rattle.keys.proofs.NumberLaws.{times-append}
 use Rattle.keys.proofs.PartLaws.{Apart, keys-kept, times-kept}
 use Rattle.keys.specs.Key.{keyOf, times}
 use Rattle.laws.specs.Bytes.{Bytes}
-use Rattle.rearrangement.proofs.ClearLaws.{Free, saids}
+use Rattle.rearrangement.proofs.ClearLaws.{Free}
 use Rattle.rearrangement.proofs.FrontLaws.{Chain}
-use Rattle.rearrangement.specs.Cut.{Piece}
+use Rattle.rearrangement.specs.Cut.{Piece, saids}
 use Rattle.scene.specs.Block.{shift}
 use Rattle.scene.specs.Statement.{Statement}
 use Rattle.scene.specs.Told.{Told}

@@ -1,8 +1,7 @@
 -- Blocks in an order of their statements' numbers that keeps what is held: only independent blocks of other names change their order.
-use mathlib.Core.Bool.{Bool, false}
+use mathlib.Core.Bool.{false}
 use mathlib.Core.List.{List, [], _∷_, _++_, map}
-use mathlib.Core.Option.{Option}
-use mathlib.Core.Path.{_≡_, ap, sym, _∙_, subst, subst₂}
+use mathlib.Core.Path.{_≡_, ap, sym, _∙_, subst₂}
 use Prim.Native.Nat.{ℕ, _-_, _<_}
 use native.Mathlib.Omega.{arith}
 use lib.ListN.{length}
@@ -16,11 +15,10 @@ use Rattle.rearrangement.specs.Blocks.{behindBlocks}
 use Rattle.rearrangement.specs.Cut.{Piece}
 use Rattle.rearrangement.specs.Held.{held, heldBy, heldIn}
 use Rattle.rearrangement.specs.Order.{Apart, OrderedBy, Passes}
-use Rattle.scene.specs.Properties.{numbered}
 use Rattle.scene.specs.Reading.{Entry, statements}
 use Rattle.scene.specs.Statement.{Statement}
 use Rattle.sorting.proofs.NameLaws.{Unlike, UnlikeBlocks}
-use Rattle.sorting.proofs.OwnLaws.{Among, Own, at, noPiece, own-of}
+use Rattle.sorting.proofs.OwnLaws.{Among, at, noPiece, own-of}
 use Rattle.sorting.proofs.ShuffleLaws.{All}
 
 abbrev pub Related : Piece → Piece → Type 0

@@ -10,21 +10,21 @@ use Rattle.comparison.proofs.RenumberLaws.{compare-renumbered}
 use Rattle.comparison.specs.Compare.{compared}
 use Rattle.grouping.proofs.OrderLaws.{grouped-keeps, grouped-shuffle}
 use Rattle.grouping.specs.Grouped.{upTo}
-use Rattle.keys.proofs.NameLaws.{keys-statements, names, times-statements}
+use Rattle.keys.proofs.NameLaws.{keys-statements, times-statements}
 use Rattle.keys.proofs.RowsLaws.{row}
 use Rattle.keys.specs.Key.{from, keyOf, times}
 use Rattle.keys.specs.Rows.{rowsOf}
 use Rattle.laws.specs.Bytes.{Bytes}
 use Rattle.laws.specs.Shuffle.{Shuffle}
 use Rattle.rearrangement.proofs.BlockLaws.{blocks-cut, blocks-joined, cut-lines-end, cut-uncrowded, lines-end, ownPieces, pieces-own, restPiece, restPieces}
-use Rattle.rearrangement.proofs.ClearLaws.{Free, saids}
+use Rattle.rearrangement.proofs.ClearLaws.{Free}
 use Rattle.rearrangement.proofs.CutLaws.{length-shuffle, pieces-rise, pieces-text, read-shuffle}
 use Rattle.rearrangement.proofs.FrontLaws.{Chain, Turned, turned}
 use Rattle.rearrangement.proofs.LayoutLaws.{Laid, laid}
 use Rattle.rearrangement.proofs.RearrangeLaws.{blocks-say, each-read, old-says, rearranged-by, way-chain}
 use Rattle.rearrangement.proofs.WayLaws.{Way}
 use Rattle.rearrangement.specs.Blocks.{allBlocks, behindBlocks, can, crowded, linesEnd, uncrowded, unended, verdict}
-use Rattle.rearrangement.specs.Cut.{Cut, Piece, joined, pieces, textOf}
+use Rattle.rearrangement.specs.Cut.{Cut, Piece, joined, pieces, saids, textOf}
 use Rattle.rearrangement.specs.Held.{heldIn}
 use Rattle.rearrangement.specs.Order.{Apart, Ordered, OrderedBy, Passes}
 use Rattle.rearrangement.specs.Rearranged.{Rearranged}
@@ -173,6 +173,12 @@ verdict-can text es h = go (linesEnd text) (crowded text es) refl refl h
     go true (some x) p q k = let z : _≡_ {A = ℕ} 0 1 = cc in absurd (omega arith)
     go false o p q k = let z : _≡_ {A = ℕ} 0 1 = cc in absurd (omega arith)
 
+-- the blocks of a text that can be cut
+pub record OwnBlocks (text : Bytes) (es : List Entry) : Type 0 where
+  pub whole : joined (allBlocks text es) ≡ text
+  pub cut : Cut es 0 (allBlocks text es)
+  pub own : pieces es 0 0 (allBlocks text es) ≡ ownPieces text es ++ restPieces text es
+
 -- a text that can be cut is laid out as `Blocks` says
 module _ (r : Settings) (text : Bytes) (es : List Entry) (e : read r text ≡ accepted es) where
   stands : LineStart text → Laid text es
@@ -182,11 +188,14 @@ module _ (r : Settings) (text : Bytes) (es : List Entry) (e : read r text ≡ ac
   unfolding verdict
   can-verdict a b = λ i. cond (a i) (uncrowded (b i)) (unended text)
 
-  cut-here : verdict text es ≡ can → Cuttable text es
-  cut-here h =
+  pub own-blocks : verdict text es ≡ can → OwnBlocks text es
+  own-blocks h =
       let v = verdict-can text es h in
       let l = lines-end text (v .0) in
-      record { parts = allBlocks text es; whole = blocks-joined text es l (stands l) (v .1); cut = blocks-cut text es l (stands l) (v .1) }
+      record { whole = blocks-joined text es l (stands l) (v .1); cut = blocks-cut text es l (stands l) (v .1); own = pieces-own text es l (stands l) (v .1) }
+
+  cut-here : verdict text es ≡ can → Cuttable text es
+  cut-here h = let b = own-blocks h in record { parts = allBlocks text es; whole = b .whole; cut = b .cut }
 
   here-cut : Cuttable text es → verdict text es ≡ can
   here-cut c =
@@ -195,25 +204,23 @@ module _ (r : Settings) (text : Bytes) (es : List Entry) (e : read r text ≡ ac
 
   sorted-scene : verdict text es ≡ can → SortedScene r text es
   sorted-scene h =
-      let v = verdict-can text es h in
-      let l = lines-end text (v .0) in
+      let b = own-blocks h in
       let ts = allBlocks text es in
-      let own = pieces-own text es l (stands l) (v .1) in
-      let whole = blocks-joined text es l (stands l) (v .1) in
-      let cut = blocks-cut text es l (stands l) (v .1) in
+      let own = b .own in
+      let whole = b .whole in
       let e′ : read r (joined ts) ≡ accepted es = ap (read r) whole ∙ e in
       let s = shuffled text es own in
       let o = keeps text es own in
       let is = text-is text es own in
       record {
         whole = whole;
-        cut = cut;
+        cut = b .cut;
         new = sorted text es own;
         shuffled = s;
         ordered = ordered-apart (sorted text es own) o;
         sorted = is;
         long = ap length (sym is) ∙ sym (length-shuffle (sorted text es own) (pieces es 0 0 ts) s) ∙ ap length (pieces-text es 0 0 ts ∙ whole);
-        unchanged = subst₂ (λ (a b : Bytes). Unchanged r a b es (pieces es 0 0 ts) (sorted text es own)) whole is (by-order r ts es (sorted text es own) e′ cut s o, same-rows r ts es (sorted text es own) e′ cut s o);
+        unchanged = subst₂ (λ (a b : Bytes). Unchanged r a b es (pieces es 0 0 ts) (sorted text es own)) whole is (by-order r ts es (sorted text es own) e′ (b .cut) s o, same-rows r ts es (sorted text es own) e′ (b .cut) s o);
       }
 
 pub cut-law : CutLaw

@@ -1,10 +1,10 @@
 -- Which two statements keep their order, as a few tests.
-use mathlib.Core.Bool.{Bool, true, false, cond, _&&_, _||_, or-false, or-true}
+use mathlib.Core.Bool.{Bool, true, false, cond, _&&_, _||_, or-false}
 use mathlib.Core.List.{List, [], _∷_, _++_, append-nil}
-use mathlib.Core.Path.{_≡_, refl, ap, _∙_}
+use mathlib.Core.Path.{_≡_, refl, ap, sym, _∙_}
 use Rattle.keys.proofs.OrderLaws.{same-sym}
 use Rattle.laws.specs.Bytes.{Bytes, same}
-use Rattle.rearrangement.specs.Held.{bound, held}
+use Rattle.rearrangement.specs.Held.{bound}
 use Rattle.scene.specs.Block.{given, referred, share, stands, targets}
 use Rattle.scene.specs.Links.{gives}
 use Rattle.scene.specs.Statement.{Statement, void}
@@ -28,7 +28,7 @@ unfolding referred
 stands-referred w s = ap (stands w) (append-nil (modifiers s ++ targets (s .body))) ∙ stands-append w (modifiers s) (targets (s .body))
 
 -- what one statement gives
-share-given : (s : Statement) (ys : List Bytes) → share (given (s ∷ [])) ys ≡ (gives s && stands (s .name) ys)
+pub share-given : (s : Statement) (ys : List Bytes) → share (given (s ∷ [])) ys ≡ (gives s && stands (s .name) ys)
 unfolding share given
 share-given s ys = go (gives s)
   where
@@ -44,20 +44,20 @@ stands-given w s = go (gives s)
     go true = or-false (same w (s .name))
     go false = refl
 
-given-shared : (s t : Statement) → share (given (s ∷ [])) (given (t ∷ []) ++ referred (t ∷ [])) ≡ (gives s && (gives t && same (s .name) (t .name) || stands (s .name) (referred (t ∷ []))))
+-- one gives a name that the other gives or refers to
+pub given-shared : (s t : Statement) → share (given (s ∷ [])) (given (t ∷ []) ++ referred (t ∷ [])) ≡ (gives s && (gives t && same (s .name) (t .name) || stands (s .name) (referred (t ∷ []))))
 given-shared s t = share-given s (given (t ∷ []) ++ referred (t ∷ [])) ∙ ap (λ (b : Bool). gives s && b) (stands-append (s .name) (given (t ∷ [])) (referred (t ∷ [])) ∙ ap (λ (b : Bool). b || stands (s .name) (referred (t ∷ []))) (stands-given (s .name) t))
 
--- one name, or one gives a name that the other refers to
-any-order : (g h n p q : Bool) → (g && (h && n || p) || h && (g && n || q) || n) ≡ (n || g && p || h && q)
-any-order true true true p q = refl
-any-order true true false p q = or-false (p || q)
-any-order true false true p q = or-true (p || false)
-any-order true false false p q = or-false (p || false)
-any-order false true true p q = or-true q
-any-order false true false p q = or-false q
-any-order false false true p q = refl
-any-order false false false p q = refl
+-- a name that both give is asked for once
+once : (g h n p q : Bool) → (g && (h && n || p) || h && (g && n || q)) ≡ (g && (h && n || p) || h && q)
+once true true true p q = refl
+once true true false p q = refl
+once true false n p q = refl
+once false h n p q = refl
 
-pub held-tests : (s t : Statement) → held s t ≡ (same (s .name) (t .name) || gives s && stands (s .name) (referred (t ∷ [])) || gives t && stands (t .name) (referred (s ∷ [])))
-unfolding held bound
-held-tests s t = (λ i. given-shared s t i || (given-shared t s ∙ ap (λ (b : Bool). gives t && (gives s && b || stands (t .name) (referred (s ∷ [])))) (same-sym (t .name) (s .name))) i || same (s .name) (t .name)) ∙ any-order (gives s) (gives t) (same (s .name) (t .name)) (stands (s .name) (referred (t ∷ []))) (stands (t .name) (referred (s ∷ [])))
+pub bound-tests : (s t : Statement) → bound s t ≡ (share (given (s ∷ [])) (given (t ∷ []) ++ referred (t ∷ [])) || gives t && stands (t .name) (referred (s ∷ [])))
+unfolding bound
+bound-tests s t =
+    (λ i. given-shared s t i || (given-shared t s ∙ ap (λ (b : Bool). gives t && (gives s && b || stands (t .name) (referred (s ∷ [])))) (same-sym (t .name) (s .name))) i)
+    ∙ once (gives s) (gives t) (same (s .name) (t .name)) (stands (s .name) (referred (t ∷ []))) (stands (t .name) (referred (s ∷ [])))
+    ∙ sym (λ i. given-shared s t i || gives t && stands (t .name) (referred (s ∷ [])))

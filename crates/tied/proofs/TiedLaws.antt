@@ -1,5 +1,5 @@
 -- The ties of an accepted text's records are those of its statements.
-use mathlib.Core.Bool.{Bool, true, false, not, _&&_, _||_, cond, or-false}
+use mathlib.Core.Bool.{Bool, true, false, not, _&&_, _||_, cond, or-comm, or-false}
 use mathlib.Core.List.{List, [], _∷_, _++_}
 use mathlib.Core.Logic.{_⊎_, inl, inr}
 use mathlib.Core.Option.{some}
@@ -9,8 +9,8 @@ use native.Mathlib.Omega.{arith}
 use borrow.Author.Tests.{eq-eqb, le-leb, lt-leb, ne-eqb}
 use lib.Dec.{eqb}
 use lib.ListN.{length, length-append}
+use Rattle.holding.specs.Chain.{boundBy, boundIn}
 use Rattle.keys.proofs.OrderLaws.{same-sym}
-use Rattle.laws.proofs.BoolLaws.{or-false-left, or-false-right}
 use Rattle.laws.proofs.NatLaws.{le-or-lt}
 use Rattle.laws.specs.Bytes.{Bytes, same}
 use Rattle.rearrangement.specs.Held.{bound, held, heldBy, heldIn}
@@ -20,7 +20,7 @@ use Rattle.scene.proofs.ImageLaws.{name-is}
 use Rattle.scene.proofs.MeaningLaws.{IsType, own-type}
 use Rattle.scene.proofs.PropertyLaws.{modifier-latest, modifier-void, split, target-latest, target-none}
 use Rattle.scene.proofs.TellsLaws.{At, at, nth-at, read-read, split-statements, statements-length}
-use Rattle.scene.specs.Block.{Independent, given, referred, share, stands, targets}
+use Rattle.scene.specs.Block.{given, referred, share, stands, targets}
 use Rattle.scene.specs.Links.{gives, ownBody, typeIn}
 use Rattle.scene.specs.Properties.{Named, numbered}
 use Rattle.scene.specs.Reading.{Entry, accepted, readStatements, statements}
@@ -29,9 +29,9 @@ use Rattle.scene.specs.Statement.{Body, Statement, alias, primitive, void}
 use Rattle.scene.specs.Types.{isModifier, isSurface}
 use Rattle.scene.specs.declared.Settings.{Settings}
 use Rattle.table.specs.Number.{numberIn}
-use Rattle.ties.specs.Ties.{classOf, classesTo, givesIn, heldRows, refersIn}
+use Rattle.ties.specs.Ties.{boundRows, classOf, classesTo, givesIn, heldRows, refersIn}
 use Rattle.tied.proofs.ClassLaws.{class-at, class-same, class-some}
-use Rattle.tied.proofs.PairLaws.{held-tests, modifiers, stands-referred}
+use Rattle.tied.proofs.PairLaws.{bound-tests, given-shared, modifiers, stands-referred}
 
 -- ---- numbers and types
 
@@ -45,6 +45,9 @@ entry-at es n p h =
     let e : n ≡ suc (length (statements (h .x))) = omega (arith, h .number, statements-length (h .x)) in
     (λ i. numbered (split-statements es (h .l) (h .e) (h .x) (h .split) i) (e i)) ∙ numbered-at (statements (h .l)) (h .e .statement) (statements (h .x))
 
+pub statement-at : (es : List Entry) (n : ℕ) → 0 < n → n ≤ length es → (s : Statement) × (numbered (statements es) n ≡ some s)
+statement-at es n p l = let h = at es (n - 1) (omega arith) in (h .e .statement, entry-at es n p h)
+
 -- a type is a surface's or a modifier's
 modifier-type : (t : ℕ) → IsType t → isModifier t ≡ not (isSurface t)
 modifier-type t (a, b) = go (le-or-lt t 9)
@@ -55,7 +58,7 @@ modifier-type t (a, b) = go (le-or-lt t 9)
 
 -- ---- the records of an accepted text
 
-row : (text : Bytes) (es : List Entry) (k n : ℕ) → recordIn (recordImage text k (accepted es)) n ≡ nth (records es) n
+pub row : (text : Bytes) (es : List Entry) (k n : ℕ) → recordIn (recordImage text k (accepted es)) n ≡ nth (records es) n
 unfolding recordImage
 row text es k n = record-in text (records es) k n
 
@@ -139,17 +142,31 @@ module _ (r : Settings) (text : Bytes) (es : List Entry) (k : ℕ) (reads : read
           ∙ (λ i. by-modifier i || by-target i)
           ∙ sym (stands-referred (s .name) t)
 
-  pair : (i j : ℕ) (s t : Statement) → Says i s → Says j t → heldRows table classes i j ≡ held s t
-  unfolding heldRows
-  pair i j s t p q =
-      (λ z. same-class i s p j t q z || gives-of i s p z && refers i s p j t q z || gives-of j t q z && refers j t q i s p z)
-      ∙ sym (held-tests s t)
+  module _ (i j : ℕ) (s t : Statement) (p : Says i s) (q : Says j t) where
+    -- the first gives a name that the second gives or refers to
+    pub first-binds : (givesIn table i && (givesIn table j && eqb (numberIn classes i) (numberIn classes j) || refersIn table classes j (numberIn classes i))) ≡ share (given (s ∷ [])) (given (t ∷ []) ++ referred (t ∷ []))
+    first-binds = (λ z. gives-of i s p z && (gives-of j t q z && same-class i s p j t q z || refers i s p j t q z)) ∙ sym (given-shared s t)
+
+    bound-pair : boundRows table classes i j ≡ bound s t
+    unfolding boundRows
+    bound-pair = (λ z. first-binds z || gives-of j t q z && refers j t q i s p z) ∙ sym (bound-tests s t)
+
+    held-pair : heldRows table classes i j ≡ held s t
+    unfolding heldRows held
+    held-pair = (λ z. same-class i s p j t q z || bound-pair z) ∙ or-comm (same (s .name) (t .name)) (bound s t)
+
+-- ---- the ties
+
+pub tied-bound : (r : Settings) (text : Bytes) (es : List Entry) (k : ℕ) → readStatements r text ≡ accepted es → (i j : ℕ) → 0 < i → i < j → j ≤ length es → let T = recordImage text k (accepted es) in boundRows T (classesTo text T (length es)) i j ≡ boundIn (statements es) i j
+unfolding boundIn
+tied-bound r text es k reads i j p q l =
+    let a = statement-at es i p (omega arith) in
+    let b = statement-at es j (omega arith) l in
+    bound-pair r text es k reads i j (a .0) (b .0) (a .1) (b .1) ∙ sym (λ z. boundBy (a .1 z) (b .1 z))
 
 pub tied : (r : Settings) (text : Bytes) (es : List Entry) (k : ℕ) → readStatements r text ≡ accepted es → (i j : ℕ) → 0 < i → i < j → j ≤ length es → let T = recordImage text k (accepted es) in heldRows T (classesTo text T (length es)) i j ≡ heldIn (statements es) i j
 unfolding heldIn
 tied r text es k reads i j p q l =
-    let a = at es (i - 1) (omega arith) in
-    let b = at es (j - 1) (omega arith) in
-    let s = entry-at es i p a in
-    let t = entry-at es j (omega arith) b in
-    pair r text es k reads i j (a .e .statement) (b .e .statement) s t ∙ sym (λ z. heldBy (s z) (t z))
+    let a = statement-at es i p (omega arith) in
+    let b = statement-at es j (omega arith) l in
+    held-pair r text es k reads i j (a .0) (b .0) (a .1) (b .1) ∙ sym (λ z. heldBy (a .1 z) (b .1 z))

@@ -7,9 +7,9 @@ use Prim.Native.Nat.{ℕ, zero, suc, _+_, _-_, _≤_, _<_}
 use native.Mathlib.Numerals.{add-one}
 use native.Mathlib.Omega.{arith}
 use borrow.Author.Tests.{ne-eqb}
-use lib.ListN.{length, getD, set, drop, length-append, length-set, drop-of-length-le, List·getD-eq-default}
+use lib.ListN.{length, getD, set, drop, length-append, length-set, drop-of-length-le}
 use lib.Seq.{drop-cons, set-at, append-snoc}
-use Rattle.laws.proofs.NatLaws.{le-or-lt, nonzero}
+use Rattle.laws.proofs.NatLaws.{le-or-lt}
 use Rattle.laws.specs.Bytes.{Bytes, same}
 use Rattle.scene.specs.Record.{nameIn}
 use Rattle.ties.specs.Ties.{firstOf, classOf, classesTo}

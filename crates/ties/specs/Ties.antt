@@ -28,9 +28,12 @@ givesIn T n = isModifier (recordIn T n .type)
 unfoldable pub refersIn : (table classes : List ℕ) → (n class : ℕ) → Bool
 refersIn T C n k = eqb (numberIn C (recordIn T n .modifier)) k || eqb (numberIn C (recordIn T n .target)) k
 
--- they have one name, or one gives a name that the other refers to
-unfoldable pub heldRows : (table classes : List ℕ) → (i j : ℕ) → Bool
-heldRows T C i j =
-    eqb (numberIn C i) (numberIn C j)
-    || givesIn T i && refersIn T C j (numberIn C i)
+-- one gives a name that the other gives or refers to
+unfoldable pub boundRows : (table classes : List ℕ) → (i j : ℕ) → Bool
+boundRows T C i j =
+    givesIn T i && (givesIn T j && eqb (numberIn C i) (numberIn C j) || refersIn T C j (numberIn C i))
     || givesIn T j && refersIn T C i (numberIn C j)
+
+-- or they have one name
+unfoldable pub heldRows : (table classes : List ℕ) → (i j : ℕ) → Bool
+heldRows T C i j = eqb (numberIn C i) (numberIn C j) || boundRows T C i j

@@ -12,7 +12,6 @@ use Rattle.laws.specs.Bytes.{Bytes, same}
 use Rattle.reader.specs.Answer.{readInto}
 use Rattle.scene.specs.Reading.{Entry, Reading, accepted, statements}
 use Rattle.scene.specs.Record.{recordImage, realImage, settingsFor}
-use Rattle.scene.specs.Statement.{Statement}
 use Rattle.scene.specs.declared.Mode.{Mode}
 use Rattle.sides.proofs.FitLaws.{numbers-kept, reals-kept}
 use Rattle.sides.specs.Read.{read}

@@ -626,6 +626,38 @@ pub fn pair_table(random: &mut Random, records: &[u32]) -> Vec<u32> {
     pairs
 }
 
+// ---- names that bind
+
+/// A text and a table over it that can be asked about order: names of few bytes, the same ones at several places, and links to any records
+/// above. Then mostly one number is changed, so that the table may hold anything.
+pub fn bound_table(random: &mut Random) -> (Vec<u8>, Vec<u32>) {
+    let letters = &b"abcdefgh"[..random.within(2, 8)];
+    let text: Vec<u8> = (0..random.within(1, 40)).map(|_| *random.pick(letters)).collect();
+    let rows = random.within(1, 12);
+    let mut records = Vec::new();
+    for number in 1..=rows {
+        let kind = *random.pick(&[0, 1, 9, 9, 10, 10, 10, 15, 24, 25, 25, 26, u32::MAX]);
+        let [modifier, target] =
+            [60, 25].map(|often| if random.percent(often) { random.below(number) as u32 } else { 0 });
+        let len = random.within(1, 2).min(text.len());
+        let place = random.below(text.len() - len + 1);
+        records.extend([kind, modifier, target, place as u32, len as u32, 0, 0, 0, 0, 0, 1]);
+    }
+    if random.percent(60) {
+        let (at, len) = (random.below(rows), text.len() as u32);
+        let near = random.below(rows + 3) as u32;
+        let record = &mut records[RECORD * at..];
+        match random.below(6) {
+            0 => record[0] = *random.pick(&[0, 1, 9, 10, 25, 26, u32::MAX]),
+            1 | 2 => record[random.within(1, 2)] = *random.pick(&[near, near, at as u32, at as u32 + 1, u32::MAX]),
+            3 => record[3] = *random.pick(&[0, len - 1, len, len + 1, u32::MAX]),
+            4 => record[4] = *random.pick(&[0, 1, len, len + 1, u32::MAX]),
+            _ => records.truncate(records.len() - random.within(1, RECORD)),
+        }
+    }
+    (text, records)
+}
+
 // ---- glass
 
 /// A statement of glass, of three reals or four.

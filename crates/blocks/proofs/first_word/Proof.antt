@@ -8,7 +8,7 @@ use lib.ListN.{length, getD}
 use Rattle.blocks.proofs.WordLaws.{behind-blanks, comment-long, first-blanks, first-comment, first-end, first-here}
 use Rattle.laws.proofs.RunLaws.{past-least}
 use Rattle.lexer.specs.Class.{isBlank}
-use Rattle.rearrangement.specs.Blocks.{firstWord}
+use Rattle.rearrangement.specs.Layout.{firstWord}
 use Rattle.blocks.proofs.first_word.Statement.{statement}
 use Rattle.blocks.proofs.first_word.Tie as tie
 

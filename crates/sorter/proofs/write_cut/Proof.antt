@@ -1,13 +1,11 @@
 -- `sorter::write_cut` meets its contract.
-use mathlib.Core.List.{List}
-use mathlib.Core.Path.{_≡_, ap, sym, _∙_, subst}
-use Prim.Native.Nat.{ℕ, _≤_}
+use mathlib.Core.Path.{_≡_, sym, _∙_}
+use Prim.Native.Nat.{_≤_}
 use native.Mathlib.Omega.{arith}
 use lib.ListN.{length}
 use lib.Seq.{length-take-le, take-at}
 use Rattle.laws.proofs.ListLaws.{front-within}
-use Rattle.sorter.proofs.CodeLaws.{cut-written}
-use Rattle.sorter.specs.Code.{WritesBlocks}
+use Rattle.sorter.proofs.OrderLaws.{cut-written}
 use borrow.Author.Needs.{needs}
 use Rattle.sorter.proofs.write_cut.Statement.{statement}
 use Rattle.sorter.proofs.write_cut.Tie as tie

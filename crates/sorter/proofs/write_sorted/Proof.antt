@@ -8,7 +8,8 @@ use lib.Seq.{length-take-le, take-at}
 use Rattle.blocks.specs.Code.{Cuts}
 use Rattle.laws.proofs.ListLaws.{front-within}
 use Rattle.sorter.proofs.AnswerLaws.{sorted-refused, sorted-written}
-use Rattle.sorter.specs.Code.{WritesBlocks, orderIn}
+use Rattle.block_text.specs.BlockText.{WritesBlocks}
+use Rattle.sorter.specs.Code.{orderIn}
 use borrow.Author.Needs.{needs}
 use Rattle.sorter.proofs.write_sorted.Statement.{statement}
 use Rattle.sorter.proofs.write_sorted.Tie as tie

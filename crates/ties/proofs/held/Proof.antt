@@ -10,32 +10,13 @@ number-at-requires c κs = search needs
 number-at-requires-2 : tie.Need-number-at-requires-2
 number-at-requires-2 c κs = search needs
 
-gives-requires : tie.Need-gives-requires
-gives-requires c κs = search needs
-
-refers-requires : tie.Need-refers-requires
-refers-requires c κs = search needs
-
-gives-requires-2 : tie.Need-gives-requires-2
-gives-requires-2 c κs = search needs
-
-refers-requires-2 : tie.Need-refers-requires-2
-refers-requires-2 c κs = search needs
+bound-requires : tie.Need-bound-requires
+bound-requires c κs = search needs
 
 returns : tie.Need-returns
 returns c =
-    let g = c .before .before .before in
-    let a = g .before .before .before .before .before .args in
-    held-is (a .records .now) (a .classes .now) (a .i) (a .j) _ _ _ _ _ _ (g .before .before .number-at .ensures) (g .before .number-at2 .ensures) (g .gives .ensures) (c .before .before .refers .ensures) (c .before .gives2 .ensures) (c .refers2 .ensures)
+    let a = c .before .before .before .before .before .args in
+    held-is (a .records .now) (a .classes .now) (a .i) (a .j) _ _ _ (c .before .before .number-at .ensures) (c .before .number-at2 .ensures) (c .bound .ensures)
 
 pub held-spec : {M : Type 1} → statement M
-held-spec =
-    tie.close
-    (tie.spec
-    number-at-requires
-    number-at-requires-2
-    gives-requires
-    refers-requires
-    gives-requires-2
-    refers-requires-2
-    returns)
+held-spec = tie.close (tie.spec number-at-requires number-at-requires-2 bound-requires returns)

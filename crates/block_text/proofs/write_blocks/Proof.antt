@@ -1,10 +1,10 @@
--- `sorter::write_blocks` meets its contract.
+-- `block_text::write_blocks` meets its contract.
 use Rattle.lines.proofs.PutsLaws.{puts-as, puts-more}
-use Rattle.sorter.proofs.CodeLaws.{blocks-too-long, blocks-written, rest-is}
-use Rattle.sorter.specs.Code.{blocksIn}
+use Rattle.block_text.proofs.BlockLaws.{blocks-too-long, blocks-written, rest-is}
+use Rattle.block_text.specs.BlockText.{blocksIn}
 use borrow.Author.Needs.{needs}
-use Rattle.sorter.proofs.write_blocks.Statement.{statement}
-use Rattle.sorter.proofs.write_blocks.Tie as tie
+use Rattle.block_text.proofs.write_blocks.Statement.{statement}
+use Rattle.block_text.proofs.write_blocks.Tie as tie
 
 put-blocks-requires : tie.Need-put-blocks-requires
 put-blocks-requires c κs = search needs

@@ -1,12 +1,12 @@
--- `sorter::put_blocks` meets its contract.
-use Prim.Native.Nat.{_-_, _≤_}
+-- `block_text::put_blocks` meets its contract.
+use Prim.Native.Nat.{_-_}
 use lib.ListN.{drop, length}
 use Rattle.lines.proofs.PutsLaws.{PutsUpTo, all-put, none-yet, puts-length, some-more}
-use Rattle.sorter.proofs.CodeLaws.{no-blocks, one-block}
-use Rattle.sorter.specs.Code.{blocksIn}
+use Rattle.block_text.proofs.BlockLaws.{no-blocks, one-block}
+use Rattle.block_text.specs.BlockText.{blocksIn}
 use borrow.Author.Needs.{needs}
-use Rattle.sorter.proofs.put_blocks.Statement.{statement}
-use Rattle.sorter.proofs.put_blocks.Tie as tie
+use Rattle.block_text.proofs.put_blocks.Statement.{statement}
+use Rattle.block_text.proofs.put_blocks.Tie as tie
 
 abbrev Inv-loop : tie.InvT-loop
 Inv-loop out₀ text ends order end₀ i₀ out end i = PutsUpTo out₀ end₀ (blocksIn text ends order) (blocksIn text ends (drop i order)) end out

@@ -1,23 +1,20 @@
--- The code's answers, one law for each.
-use mathlib.Core.Bool.{Bool, true, false}
-use mathlib.Core.List.{List, [], _∷_, _++_, append-nil}
-use mathlib.Core.Path.{_≡_, refl, ap, sym, _∙_, subst}
-use Prim.Native.Nat.{ℕ, zero, suc, _+_, _-_, _≤_, _<_, min}
+-- Blocks put into an output one behind the other.
+use mathlib.Core.Bool.{true, false}
+use mathlib.Core.List.{List, [], _++_}
+use mathlib.Core.Path.{_≡_, ap, sym, _∙_}
+use Prim.Native.Nat.{ℕ, suc, _+_, _-_, _≤_, _<_, min}
 use native.Mathlib.Omega.{arith}
 use lib.ListN.{drop, drop-of-length-le, getD, length, length-drop, replicate, take}
 use lib.Seq.{drop-cons, take-all}
-use Rattle.grouping.specs.Grouped.{grouped, groupedFrom, next, upTo, without}
+use Rattle.block_text.specs.BlockText.{WritesBlocks, blockIn, blocksIn, sortedIn}
 use Rattle.laws.specs.Bytes.{Bytes, part}
 use Rattle.lines.proofs.PutsLaws.{puts-length}
 use Rattle.lines.specs.Puts.{Puts}
 use Rattle.lines.specs.declared.Cursor.{Cursor}
-use Rattle.scene.specs.Record.{filled, recordIn}
-use Rattle.sorter.specs.Code.{WritesBlocks, blockIn, blocksIn, orderIn, sortedIn}
+use Rattle.scene.specs.Record.{filled}
 use Rattle.table.specs.Number.{numberIn}
-use Rattle.ties.specs.Ties.{classesTo, heldRows}
 use Rattle.writer.proofs.AnswerLaws.{end-is, fitting, front, rest-cleared, too-long}
 use Rattle.writer.specs.Answer.{answered, output}
-use Rattle.writer.specs.declared.Answer.{Answer}
 use Rattle.writer.specs.declared.Answer.the-variants as call
 
 -- ---- blocks one behind the other
@@ -50,28 +47,3 @@ module _ (text : Bytes) (E ks : List ℕ) {out mid : Bytes} {r : Cursor} (p : Pu
 
   pub blocks-written : (f : r .full ≡ false) → {out′ : Bytes} → out′ ≡ take (r .at) mid ++ replicate (length mid - r .at) 0 → WritesBlocks text E ks out (call.Written (r .at)) out′
   blocks-written f z = record { says = ap call.Written (end-is p f) ∙ ap answered (sym (fitting p f)); output = z ∙ rest-cleared p f ∙ ap (output (length out)) (sym (fitting p f)) }
-
--- ---- the order
-
-grouped-length : (held : ℕ → ℕ → Bool) (type : ℕ → ℕ) (n last : ℕ) (left : List ℕ) → length (groupedFrom held type n last left) ≡ n
-unfolding groupedFrom
-grouped-length held type zero last left = refl
-grouped-length held type (suc n) last left = let c = next held type last left in ap suc (grouped-length held type n (type c) (without c left))
-
-pub order-is : (text : Bytes) (T : List ℕ) (many : ℕ) {n : ℕ} {classes order : List ℕ} → n ≡ min many 1024 → classes ≡ classesTo text T n → order ≡ filled 0 n (grouped (heldRows T classes) (λ k. recordIn T k .type) (min 1024 n)) → order ≡ orderIn text T many
-unfolding orderIn grouped
-order-is text T many {n = n} p q e =
-    let m : min 1024 n ≡ n = omega (arith, p) in
-    let found = grouped (heldRows T (classesTo text T n)) (λ k. recordIn T k .type) n in
-    let full : n - length found ≡ 0 = omega (arith, grouped-length (heldRows T (classesTo text T n)) (λ k. recordIn T k .type) n 0 (upTo n)) in
-    e ∙ (λ i. filled 0 n (grouped (heldRows T (q i)) (λ k. recordIn T k .type) (m i)))
-    ∙ ap (λ (k : ℕ). found ++ replicate k 0) full ∙ append-nil found
-    ∙ (λ i. grouped (heldRows T (classesTo text T (p i))) (λ k. recordIn T k .type) (p i))
-
--- the tables of classes and of the order are parts of longer ones, lent and taken again
-pub cut-written : (text : Bytes) (T E : List ℕ) (out : Bytes) {n many long : ℕ} {classes classes′ order order′ : List ℕ} → n ≡ min (length E) 1024 → many ≡ n → classes ≡ classesTo text T many → classes′ ≡ classes
-    → long ≡ n → order ≡ filled 0 long (grouped (heldRows T classes′) (λ k. recordIn T k .type) (min 1024 long)) → order′ ≡ order → {r : Answer} {out′ : Bytes} → WritesBlocks text E order′ out r out′ → WritesBlocks text E (orderIn text T (length E)) out r out′
-cut-written text T E out {n = n} p m c c′ l o o′ {r = r} {out′ = out′} h =
-    let cs = c′ ∙ c ∙ ap (classesTo text T) m in
-    let os = o ∙ (λ i. filled 0 (l i) (grouped (heldRows T (cs i)) (λ k. recordIn T k .type) (min 1024 (l i)))) in
-    subst (λ (ks : List ℕ). WritesBlocks text E ks out r out′) (o′ ∙ order-is text T (length E) p refl os) h

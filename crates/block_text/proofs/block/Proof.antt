@@ -1,9 +1,9 @@
--- `sorter::block` meets its contract.
+-- `block_text::block` meets its contract.
 use native.Mathlib.Omega.{arith}
-use Rattle.sorter.proofs.CodeLaws.{block-is}
+use Rattle.block_text.proofs.BlockLaws.{block-is}
 use borrow.Author.Needs.{needs}
-use Rattle.sorter.proofs.block.Statement.{statement}
-use Rattle.sorter.proofs.block.Tie as tie
+use Rattle.block_text.proofs.block.Statement.{statement}
+use Rattle.block_text.proofs.block.Tie as tie
 
 less-requires : tie.Need-less-requires
 less-requires c κs = search needs

@@ -1,0 +1,13 @@
+pub mod ChainLaws
+pub mod NearestLaws
+pub mod ShortestLaws
+pub mod PositionLaws
+pub mod SaysLaws
+pub mod BoundLaws
+pub mod KeepLaws
+pub mod LateLaws
+pub mod PartLaws
+pub mod FreeLaws
+pub mod AgreeLaws
+pub mod MatteredLaws
+pub mod SameLaws

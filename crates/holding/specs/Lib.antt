@@ -1,0 +1,4 @@
+-- To be believed.
+pub mod Chain
+pub mod Shortest
+pub mod Mattered

@@ -1,0 +1,1 @@
+-- The answer is that of `precedence`: its numbers are defined there.

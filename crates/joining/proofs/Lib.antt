@@ -1,0 +1,6 @@
+pub mod DefinitionLaws
+pub mod PickLaws
+pub mod MemberLaws
+pub mod OnceLaws
+pub mod ArrangeLaws
+pub mod ReadsLaws

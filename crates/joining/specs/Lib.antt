@@ -1,0 +1,5 @@
+-- To be believed.
+pub mod Definition
+pub mod Pick
+pub mod Arranged
+pub mod Joined

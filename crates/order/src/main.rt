@@ -1,10 +1,7 @@
 // Whether the order of two entries of a scene mattered, by the numbers that `list` prints; with no numbers, the names that are given more
 // than once, with their definitions and which entries use which.
-use buffer::put_bytes;
-use buffer::put_field;
 use input::Loaded;
 use numeral::Count;
-use precedence::Order;
 use reader::Answer;
 use scene::Mode;
 
@@ -19,95 +16,12 @@ fn greatest(a: usize, b: usize) -> usize {
     if a < b { b } else { a }
 }
 
-// What is said of a pair behind its numbers.
-fn put_order(line: &mut [u8], at: usize, text: &[u8], records: &[u32], order: Order) -> usize {
-    match order {
-        Order::Free => put_bytes(line, at, b" order=free\n"),
-        Order::Held(by, named) => {
-            let behind_by = put_field(line, at, b" order=held by=", by);
-            let name = table::name_of(text, records, named);
-            let behind_name = fields::put_text(line, behind_by, b" name=", name);
-            put_bytes(line, behind_name, b"\n")
-        }
-        Order::Refused(reason) => {
-            let behind_reason = put_field(line, at, b" refused=", reason as usize);
-            put_bytes(line, behind_reason, b"\n")
-        }
-    }
-}
-
 fn print_pair(text: &[u8], records: &[u32], count: usize, a: usize, b: usize) -> bool {
     let mut line = [0u8; PAIR];
-    let behind_first = put_field(&mut line, 0, b"first=", lexer::least(a, b));
-    let behind_second = put_field(&mut line, behind_first, b" second=", greatest(a, b));
     let order = precedence::mattered(text, records, count, a, b);
-    let end = put_order(&mut line, behind_second, text, records, order);
-    output::print(lexer::part(&line, 0, end))
-}
-
-// Whether record j has record d as its modifier or its alias target.
-fn uses(records: &[u32], j: usize, d: usize) -> bool {
-    let modifier = table::field(records, j, table::MODIFIER) as usize;
-    let target = table::field(records, j, table::TARGET) as usize;
-    (modifier == d) | (target == d)
-}
-
-// Record j, if it uses definition d, behind a comma where the list has begun.
-fn put_user(
-    line: &mut [u8],
-    start: usize,
-    at: usize,
-    records: &[u32],
-    d: usize,
-    j: usize,
-) -> usize {
-    if !uses(records, j, d) {
-        return at;
-    }
-    if at == start {
-        return buffer::put_decimal(line, at, j);
-    }
-    put_field(line, at, b",", j)
-}
-
-fn put_users(line: &mut [u8], at: usize, records: &[u32], count: usize, d: usize) -> usize {
-    let mut end = at;
-    let mut j = 0;
-    while j < count {
-        j += 1;
-        end = put_user(line, at, end, records, d, j);
-    }
-    end
-}
-
-fn put_definition(line: &mut [u8], at: usize, records: &[u32], count: usize, d: usize) -> usize {
-    let row = table::field(records, d, table::LINE) as usize;
-    let behind_number = put_field(line, at, b" no=", d);
-    let behind_line = put_field(line, behind_number, b" line=", row);
-    let behind_label = put_bytes(line, behind_line, b" used=");
-    put_users(line, behind_label, records, count, d)
-}
-
-// The definitions of a name from the first on, each the next of the one before it.
-fn put_definitions(
-    line: &mut [u8],
-    at: usize,
-    records: &[u32],
-    count: usize,
-    first: usize,
-) -> usize {
-    let mut end = at;
-    let mut d = first;
-    let mut left = count;
-    while 0 < left {
-        if d == 0 {
-            return end;
-        }
-        end = put_definition(line, end, records, count, d);
-        d = table::field(records, d, table::NEXT) as usize;
-        left -= 1;
-    }
-    end
+    let first = lexer::least(a, b);
+    let end = order_listing::pair_line(&mut line, text, records, first, greatest(a, b), order);
+    output::print(lexer::part(&line, 0, end.at))
 }
 
 // Whether an entry before n gives the name of n.
@@ -128,10 +42,8 @@ fn print_name(text: &[u8], records: &[u32], count: usize, n: usize) -> bool {
         return true;
     }
     let mut line = [0u8; NAME];
-    let behind_name = fields::put_text(&mut line, 0, b"name=", table::name_of(text, records, n));
-    let behind_all = put_definitions(&mut line, behind_name, records, count, n);
-    let end = put_bytes(&mut line, behind_all, b"\n");
-    output::print(lexer::part(&line, 0, end))
+    let end = order_listing::name_line(&mut line, text, records, count, n);
+    output::print(lexer::part(&line, 0, end.at))
 }
 
 fn print_names(text: &[u8], records: &[u32], count: usize) -> bool {

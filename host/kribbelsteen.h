@@ -1,5 +1,5 @@
-/* Kribbelsteen: a verified reader of Radiance scene texts, mixtures resolved, the order of two primitives judged, two saves compared,
- * scenes written out, their glass moved, scenes sorted, ray hits, Fresnel values and panes of glass.
+/* Kribbelsteen: a verified reader of Radiance scene texts, mixtures resolved, the order of two primitives judged, two saves compared, two
+ * hands' edits joined, scenes written out, their glass moved, scenes sorted, ray hits, Fresnel values and panes of glass.
  *
  * Link with libkribbelsteen.a. The functions keep nothing between calls, allocate nothing and may be called by several threads
  * at once, each on memory of its own.
@@ -62,7 +62,8 @@ enum kribbelsteen_pair_field {
 /* Why something is refused. */
 enum kribbelsteen_reason {
     KRIBBELSTEEN_ACCEPTED = 0,
-    /* kribbelsteen_read, _read_indexed, _read_both, _write, _move_glass and _sort; in brackets the place that is answered */
+    /* kribbelsteen_read, _read_indexed, _read_both, _write, _move_glass, _sort, _join and _check_join; in brackets the place that is
+     * answered */
     KRIBBELSTEEN_TEXT_TOO_LONG = 1,     /* text over 65,536 bytes (0) */
     KRIBBELSTEEN_BAD_BYTE = 2,          /* a word with a byte outside 33 to 126 (the word) */
     KRIBBELSTEEN_WORD_TOO_LONG = 3,     /* a word over 64 bytes (the word) */
@@ -92,7 +93,13 @@ enum kribbelsteen_reason {
     KRIBBELSTEEN_OUT_OF_RANGE = 21,
     /* kribbelsteen_write, _move_glass and _sort */
     KRIBBELSTEEN_TABLES_DIFFER = 22,    /* the tables are not those of the text (0) */
-    KRIBBELSTEEN_OUTPUT_TOO_SMALL = 23, /* the output is too small for the text (0); kribbelsteen_shown: the list is too short */
+    KRIBBELSTEEN_OUTPUT_TOO_SMALL = 23, /* the output is too small for the text (0), also kribbelsteen_join's and _check_join's;
+                                         * kribbelsteen_shown: the list is too short */
+    /* kribbelsteen_join and _check_join */
+    KRIBBELSTEEN_NAME_TWICE = 29,        /* a name stands twice in one of the three texts (0) */
+    KRIBBELSTEEN_BOTH_CHANGED = 30,      /* both hands changed one name differently (0) */
+    KRIBBELSTEEN_NO_ORDER = 31,          /* no order puts each definition after those it needs (0) */
+    KRIBBELSTEEN_OTHER_DEFINITIONS = 32, /* kribbelsteen_check_join: the typed text does not hold exactly these definitions (0) */
     /* kribbelsteen_sort */
     KRIBBELSTEEN_LAST_LINE_NOT_ENDED = 33, /* the text's last byte is not 10 (text length) */
     KRIBBELSTEEN_TWO_ON_A_LINE = 34        /* a line has words of two statements (first word of the second) */
@@ -103,6 +110,15 @@ enum kribbelsteen_direction { KRIBBELSTEEN_FORTH = 0, KRIBBELSTEEN_BACK = 1 };
 
 /* Which of two saves. */
 enum kribbelsteen_side { KRIBBELSTEEN_LEFT = 0, KRIBBELSTEEN_RIGHT = 1 };
+
+/* Which text of a join a refusal names: none, the base, the left hand's, the right hand's, or the joined or typed one. */
+enum kribbelsteen_join_text {
+    KRIBBELSTEEN_NO_TEXT = 0,
+    KRIBBELSTEEN_BASE_TEXT = 1,
+    KRIBBELSTEEN_LEFT_TEXT = 2,
+    KRIBBELSTEEN_RIGHT_TEXT = 3,
+    KRIBBELSTEEN_JOINED_TEXT = 4
+};
 
 /* How a key of a line stands: only one save has it, or both have it and it is not the same. */
 enum kribbelsteen_state { KRIBBELSTEEN_ONLY_LEFT = 1, KRIBBELSTEEN_ONLY_RIGHT = 2, KRIBBELSTEEN_CHANGED = 3 };
@@ -331,6 +347,44 @@ uint32_t kribbelsteen_move_glass(uint32_t mode, uint32_t direction, const uint8_
  * Writes the output whole: bytes behind the text are 0, and on a refusal all are. The tables are not written. */
 uint32_t kribbelsteen_sort(uint32_t mode, const uint8_t *text, size_t text_len, const uint32_t *records, size_t records_len,
                            const double *reals, size_t reals_len, uint8_t *out, size_t out_len, size_t answer[2]);
+
+/* Joins two hands' edits of a base scene: the left hand's and the right hand's text.
+ *
+ * Only names that stand once in each of the three texts, surfaces counted, are handled. For each name one definition is taken, where
+ * having none counts as a definition: if both hands have the same, that, spelled as the left hand did; else if one hand has the base's,
+ * the other hand's. Two definitions are the same if the names of their modifiers are, and either both are aliases and the names of their
+ * targets are the same, or both are primitives and type, strings and bits of the reals are. What an alias leads to does not count.
+ *
+ * The joined text is the tidy text, as kribbelsteen_write gives it, of what is taken. A definition needs its modifier, unless that is
+ * `void`, and its alias target to stand above it, and no surface will do; sides of mixtures are not needed, as they may stand below. Of the
+ * names whose needs stand already, the least by bytes comes next. An output of KRIBBELSTEEN_MOST_BYTES is enough. Joining with a hand that
+ * changed nothing gives the other hand's definitions, and exchanging the hands changes at most spelling.
+ *
+ * All texts are read in the mode, each with the room that the lent tables have, as kribbelsteen_read does with pairs enough.
+ * Returns 0, or refuses, in this order: 1 to 16, 25, 26 or 28 as the reading of the base does, then of the left text, then of the right
+ * one; 29 if a name stands twice in one of them; 30 if both hands changed one name, and not to the same; 31 if no order puts each
+ * definition after those it needs, as where one is missing or is a surface; then what the reading of the joined text gives, which can be
+ * 1, at place 0, if it has over 65,536 bytes, 6, 13, 25 or 26; then 23 if it is longer than the output.
+ * answer: which text is refused, as enum kribbelsteen_join_text has it, and the place there; bytes of the joined text, its primitives and
+ * its reals. A joined scene has text and place 0, and so have 23 and 29 to 31; a refused one has the other three numbers 0.
+ * Writes both tables and the output whole, whatever they held: the tables are left as reading the joined text leaves them, and bytes
+ * behind the text are 0; on a refusal all entries of both tables and all bytes are 0. The three texts are not written.
+ * Takes up to about 600 KB of stack, and time that grows with the square of the names. */
+uint32_t kribbelsteen_join(uint32_t mode, const uint8_t *base, size_t base_len, const uint8_t *left, size_t left_len,
+                           const uint8_t *right, size_t right_len, uint32_t *records, size_t records_len, double *reals,
+                           size_t reals_len, uint8_t *out, size_t out_len, size_t answer[5]);
+
+/* Checks a text that was typed as the join of two hands' edits. It is accepted exactly if it is read and holds the definitions that
+ * kribbelsteen_join takes and no more, each name once, in any order and spelling that is read; so what kribbelsteen_join gives is accepted.
+ * The accepted text goes into the output as it is: an output of typed_len bytes is enough.
+ *
+ * Returns 0, or refuses, in this order: as kribbelsteen_join does up to 31; 1 to 16, 25, 26 or 28 as the reading of the typed text does; 32
+ * if it does not hold exactly these definitions; then 23 if it is longer than the output. The joined text need not be one that is read.
+ * answer, tables and output are as for kribbelsteen_join, with the typed text for the joined one; 32 too has text and place 0. */
+uint32_t kribbelsteen_check_join(uint32_t mode, const uint8_t *base, size_t base_len, const uint8_t *left, size_t left_len,
+                                 const uint8_t *right, size_t right_len, const uint8_t *typed, size_t typed_len, uint32_t *records,
+                                 size_t records_len, double *reals, size_t reals_len, uint8_t *out, size_t out_len,
+                                 size_t answer[5]);
 
 /* The least distance of a hit that names none: what is not above it is no hit, so that a ray which leaves a panel does not hit it
  * again. A call that ends in _above takes a least distance by name; with 0 all that is ahead of the ray's origin counts. A larger

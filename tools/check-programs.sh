@@ -212,5 +212,36 @@ expect '$bin/compare $old $scene' $'scene=left refused=28 place=120\n' ''
 expect '$bin/compare --archive $old $old' '' ''
 expect '$bin/compare --archive $old missing' $'scene=right unreadable\n' ''
 
+# Two hands' edits joined, and a join checked: what is refused or cannot be read is said on standard error too.
+joined=$(cat crates/join/stdout)$'\n'
+two=samples/truck-two
+hands="$two.rad $two-left.rad $two-right.rad"
+nine=samples/truck-nine
+clash=$'refused=30 place=0 name=deskfront\n'
+printf '%s' "$joined" >"$scratch/joined"
+printf '%svoid plastic more 0 0 5 1 1 1 0 0\n' "$joined" >"$scratch/more"
+expect '$bin/join $hands' "$joined" ''
+expect '$bin/join --archive $hands' "$joined" ''
+expect '$bin/join $two.rad $two.rad $two.rad | $bin/compare $two.rad /dev/stdin' '' ''
+expect '$bin/join $hands $scratch/joined' $'joined primitives=7 reals=60\n' ''
+expect '$bin/sort $scratch/joined | $bin/join $hands /dev/stdin' $'joined primitives=7 reals=60\n' ''
+expect '$bin/join $hands $scratch/more' $'refused=32 place=0\n' $'refused=32 place=0\n'
+expect '$bin/join $hands $two-left.rad' $'refused=32 place=0\n' $'refused=32 place=0\n'
+expect '$bin/join $nine-parted.rad $nine-left.rad $nine-right.rad' "$clash" "$clash"
+expect '$bin/join $nine.rad $nine-left.rad $nine-right.rad' $'refused=29 place=0\n' $'refused=29 place=0\n'
+refused=$'scene=left refused=28 place=120\n'
+expect '$bin/join $two.rad $old $two-right.rad' "$refused" "$refused"
+refused=$'scene=typed refused=7 place=8\n'
+expect '$bin/join $hands $scratch/refused' "$refused" "$refused"
+refused=$'scene=base refused=1 place=0\n'
+expect '$bin/join $scratch/long $scratch/refused missing' $'scene=right unreadable\n' $'scene=right unreadable\n'
+expect '$bin/join $scratch/long $scratch/refused $scratch/refused' "$refused" "$refused"
+expect '$bin/join missing missing missing missing' $'scene=base unreadable\n' $'scene=base unreadable\n'
+expect '$bin/join $hands missing' $'scene=typed unreadable\n' $'scene=typed unreadable\n'
+expect '$bin/join $hands >/dev/full' '' "$full"
+for arguments in '' '$scene' '$scene $scene' '-x $hands' '$hands --archive' '$hands $scene $scene' '--archive $scene $scene'; do
+    expect '$bin/join '"$arguments" $'usage: join [--archive] BASE LEFT RIGHT [TYPED]\n' ''
+done
+
 echo "$passed passed, $failed failed"
 [ "$failed" -eq 0 ]

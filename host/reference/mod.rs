@@ -4,6 +4,7 @@
 
 pub mod glass;
 pub mod index;
+pub mod join;
 pub mod mixtures;
 pub mod order;
 pub mod plain;

@@ -1,7 +1,7 @@
 //! Kribbelsteen for Rust: reads Radiance scene texts into tables that the caller lends, walks from a panel to its finish or to every
-//! material that it may show, tells whether the order of two primitives mattered, compares two saves of a scene, writes a scene out tidy,
-//! moves its glass, sorts its statements, and works out ray hits, Fresnel values and panes of glass. The work is done by a library that is
-//! proved to meet its contracts; this package only gives its numbers their Rust forms.
+//! material that it may show, tells whether the order of two primitives mattered, compares two saves of a scene, joins two hands' edits of
+//! one, writes a scene out tidy, moves its glass, sorts its statements, and works out ray hits, Fresnel values and panes of glass. The work
+//! is done by a library that is proved to meet its contracts; this package only gives its numbers their Rust forms.
 //!
 //! ```
 //! use kribbelsteen::{Mode, Scene, PAIR, RECORD};
@@ -27,6 +27,7 @@
 //! ```
 #![deny(missing_docs)]
 
+mod joining;
 mod polygons;
 mod questions;
 pub mod raw;
@@ -37,6 +38,7 @@ mod types;
 mod words;
 mod writing;
 
+pub use joining::{check_join, join, Edits, JoinText, Joined, Unjoined};
 pub use polygons::{polygon, polygon_above, polygon_in_table, polygon_in_table_above, PolygonRefusal};
 pub use questions::{finish, mattered, name, shown, Finish, Order, Question};
 pub use rays::{fresnel, pane_factors, ring, ring_above, root, sphere, sphere_above, transmissivity};

@@ -167,6 +167,40 @@ extern "C" {
         out_len: usize,
         answer: *mut usize,
     ) -> u32;
+    fn kribbelsteen_join(
+        mode: u32,
+        base: *const u8,
+        base_len: usize,
+        left: *const u8,
+        left_len: usize,
+        right: *const u8,
+        right_len: usize,
+        records: *mut u32,
+        records_len: usize,
+        reals: *mut f64,
+        reals_len: usize,
+        out: *mut u8,
+        out_len: usize,
+        answer: *mut usize,
+    ) -> u32;
+    fn kribbelsteen_check_join(
+        mode: u32,
+        base: *const u8,
+        base_len: usize,
+        left: *const u8,
+        left_len: usize,
+        right: *const u8,
+        right_len: usize,
+        typed: *const u8,
+        typed_len: usize,
+        records: *mut u32,
+        records_len: usize,
+        reals: *mut f64,
+        reals_len: usize,
+        out: *mut u8,
+        out_len: usize,
+        answer: *mut usize,
+    ) -> u32;
     fn kribbelsteen_sphere(ray: *const f64, sphere: *const f64, answer: *mut f64) -> u32;
     fn kribbelsteen_sphere_above(ray: *const f64, sphere: *const f64, least: f64, answer: *mut f64) -> u32;
     fn kribbelsteen_ring(ray: *const f64, ring: *const f64, answer: *mut f64) -> u32;
@@ -518,6 +552,72 @@ pub fn sort(mode: u32, text: &[u8], records: &[u32], reals: &[f64], out: &mut [u
             records.as_ptr(),
             records.len(),
             reals.as_ptr(),
+            reals.len(),
+            out.as_mut_ptr(),
+            out.len(),
+            answer.as_mut_ptr(),
+        )
+    };
+    (reason, answer)
+}
+
+/// Joins a base and its left and right edit, read in the mode of a number: the reason, 0 if they are joined; then the text that a refusal
+/// names, its place, and length, primitives and reals of the joined text.
+pub fn join(
+    mode: u32,
+    [base, left, right]: [&[u8]; 3],
+    records: &mut [u32],
+    reals: &mut [f64],
+    out: &mut [u8],
+) -> (u32, [usize; 5]) {
+    let mut answer = [usize::MAX; 5];
+    // SAFETY: each pointer and length is that of a slice, the answer has five entries, and the borrows keep what is written apart.
+    let reason = unsafe {
+        kribbelsteen_join(
+            mode,
+            base.as_ptr(),
+            base.len(),
+            left.as_ptr(),
+            left.len(),
+            right.as_ptr(),
+            right.len(),
+            records.as_mut_ptr(),
+            records.len(),
+            reals.as_mut_ptr(),
+            reals.len(),
+            out.as_mut_ptr(),
+            out.len(),
+            answer.as_mut_ptr(),
+        )
+    };
+    (reason, answer)
+}
+
+/// Checks a text typed as the join of a base and its left and right edit: as for `join`.
+pub fn check_join(
+    mode: u32,
+    [base, left, right]: [&[u8]; 3],
+    typed: &[u8],
+    records: &mut [u32],
+    reals: &mut [f64],
+    out: &mut [u8],
+) -> (u32, [usize; 5]) {
+    let mut answer = [usize::MAX; 5];
+    // SAFETY: each pointer and length is that of a slice, the answer has five entries, and the borrows keep what is written apart.
+    let reason = unsafe {
+        kribbelsteen_check_join(
+            mode,
+            base.as_ptr(),
+            base.len(),
+            left.as_ptr(),
+            left.len(),
+            right.as_ptr(),
+            right.len(),
+            typed.as_ptr(),
+            typed.len(),
+            records.as_mut_ptr(),
+            records.len(),
+            reals.as_mut_ptr(),
             reals.len(),
             out.as_mut_ptr(),
             out.len(),

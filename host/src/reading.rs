@@ -307,8 +307,8 @@ impl<'s> Scene<'s> {
         questions::finish(self.records, self.counts().primitives, number, allowance)
     }
 
-    /// The sides of the primitive of a number: none where it is no mixture, and throughout [two saves](crate::Saves), which are read
-    /// with no pair table.
+    /// The sides of the primitive of a number: none where it is no mixture, and throughout [two saves](crate::Saves) and a
+    /// [join](crate::Joined), which are read with no pair table.
     pub fn pair(&self, number: usize) -> Option<Pair> {
         let pair = self.pairs.chunks_exact(PAIR).nth(number.checked_sub(1)?)?;
         let side = |at: usize| Some(pair[at] as usize).filter(|&number| number != 0);
@@ -317,7 +317,8 @@ impl<'s> Scene<'s> {
     }
 
     /// The materials that the primitive of a number may show, in a lent list, as [`shown`](crate::shown) gives them; one entry for each
-    /// primitive is enough. [Two saves](crate::Saves) are read with no pair table, and refused by [`Question::BadTable`].
+    /// primitive is enough. [Two saves](crate::Saves) and a [join](crate::Joined) are read with no pair table, and refused by
+    /// [`Question::BadTable`].
     ///
     /// ```
     /// use kribbelsteen::{Mode, Scene, PAIR, RECORD};

@@ -155,6 +155,31 @@ cannot be cut
 sorted=22 place=0 length=0
 sorted=5 place=4 length=0
 sorted=5 place=4 length=0
+joined=0 text=0 place=0 length=96 primitives=3 reals=12
+void light bulb
+0
+0
+3 1 1 1
+void plastic wall
+0
+0
+5 .2 .2 .2 0 0
+wall sphere knob
+0
+0
+4 0 0 0 1
+joined=23 text=0 place=0 length=0 primitives=0 reals=0
+checked=0 text=0 place=0 length=97 primitives=3 reals=12
+void plastic wall 0 0 5 .2 .2 .2 0 0
+void light bulb 0 0 3 1 1 1.
+wall sphere knob 0 0 4 0 0 0 1
+checked=23 text=0 place=0 length=0 primitives=0 reals=0
+checked=32 text=0 place=0 length=0 primitives=0 reals=0
+checked=5 text=4 place=4 length=0 primitives=0 reals=0
+joined=7 text=3 place=0 length=0 primitives=0 reals=0
+joined=29 text=0 place=0 length=0 primitives=0 reals=0
+checked=30 text=0 place=0 length=0 primitives=0 reals=0
+joined=31 text=0 place=0 length=0 primitives=0 reals=0
 word 1 4
 word 6 5
 word 12 0

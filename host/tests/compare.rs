@@ -14,7 +14,7 @@ use reference::index::{self, INDEX};
 use reference::random::Random;
 use reference::saves::{Comparison, Key, Save};
 use reference::scene::{pairs_needed, Counts, Refused, PAIR, RECORD};
-use reference::{glass, mixtures, order, rays, saves, scene, sort, tidy, tuned};
+use reference::{glass, join, mixtures, order, rays, saves, scene, sort, tidy, tuned};
 use std::collections::BTreeMap;
 use std::fmt::Debug;
 use std::io::Write;
@@ -1867,6 +1867,363 @@ fn order_of_most_primitives_mattered_alike() {
     let longer = [records.as_slice(), &records[records.len() - RECORD..]].concat();
     assert_eq!(compare_mattered(&chained, &longer, most, most, 1), FURTHER);
     assert_eq!(compare_mattered(&chained, &longer, most + 1, most, 1), 18);
+}
+
+// ---- two hands' edits joined
+
+/// A base and both hands' texts, a text typed as their join if one is to be checked, and the lengths of the tables.
+#[derive(Clone, Copy)]
+struct Hands<'t> {
+    mode: u32,
+    texts: [&'t [u8]; 3],
+    typed: Option<&'t [u8]>,
+    records: usize,
+    reals: usize,
+}
+
+/// What a text holds, if it is accepted with the most room.
+fn counts_of(mode: u32, text: &[u8]) -> Option<Counts> {
+    let (mut records, mut reals) = (vec![1; RECORD * scene::MOST_RECORDS], vec![1.0; scene::MOST_REALS]);
+    scene::read_without_pairs(mode == 1, text, &mut records, &mut reals).ok()
+}
+
+/// A reason, and in hundreds the text that it names.
+fn told_of(text: usize, reason: u32) -> u32 {
+    100 * text as u32 + reason
+}
+
+impl<'t> Hands<'t> {
+    fn with_most(texts: [&'t [u8]; 3]) -> Self {
+        Hands { mode: 0, texts, typed: None, records: RECORD * scene::MOST_RECORDS, reals: scene::MOST_REALS }
+    }
+
+    fn expected(self, room: usize) -> Result<join::Joined, join::NotJoined> {
+        let reading = join::Reading { archive: self.mode == 1, records: self.records, reals: self.reals };
+        match self.typed {
+            None => join::join(reading, self.texts, room),
+            Some(typed) => join::check(reading, self.texts, typed, room),
+        }
+    }
+
+    fn shown(self, room: usize) -> String {
+        let texts: Vec<_> = self.texts.iter().chain(&self.typed).map(|text| String::from_utf8_lossy(text)).collect();
+        format!("mode {}, lent {}, {} and {room}, texts {texts:?}", self.mode, self.records, self.reals)
+    }
+
+    /// Joins or checks both ways, with so many bytes of output, compares all that comes of it, and gives the answer and the accepted text.
+    fn compare(self, room: usize) -> (u32, Vec<u8>) {
+        let (filling, real_filling, byte_filling) = (0xdead_beef, -1234.5, 0xa5);
+        let mut records = Lent::new(self.records, filling);
+        let mut reals = Lent::new(self.reals, real_filling);
+        let mut out = Lent::new(room, byte_filling);
+        let texts = self.texts.map(<[u8]>::to_vec);
+        let [base, left, right] = texts.each_ref().map(Vec::as_slice);
+        let typed = self.typed.map(<[u8]>::to_vec);
+        let (tables, output) = ((records.table(), reals.table()), out.table());
+        let ours = match &typed {
+            None => raw::join(self.mode, [base, left, right], tables.0, tables.1, output),
+            Some(typed) => raw::check_join(self.mode, [base, left, right], typed, tables.0, tables.1, output),
+        };
+
+        let (expected, text, expected_records, expected_reals) = match self.expected(room) {
+            Ok(join::Joined { text, records, reals, counts }) => {
+                ((0, [0, 0, text.len(), counts.primitives, counts.reals]), text, records, reals)
+            }
+            Err(join::NotJoined { text, refused }) => {
+                let answer = (refused.reason, [text, refused.place, 0, 0, 0]);
+                (answer, Vec::new(), vec![0; self.records], vec![0.0; self.reals])
+            }
+        };
+        let shown = || self.shown(room);
+        assert_eq!(ours, expected, "{}", shown());
+        assert!(records.table() == expected_records, "records of {}", shown());
+        assert!(bits(reals.table()).eq(bits(&expected_reals)), "reals of {}", shown());
+        let mut output = text.clone();
+        output.resize(room, 0);
+        assert!(out.table() == output, "output of {}", shown());
+        assert!(self.texts.iter().zip(&texts).all(|(lent, kept)| lent == kept), "a text was written: {}", shown());
+        assert!(typed.as_deref() == self.typed, "the typed text was written: {}", shown());
+        assert!(records.margins_are(filling), "written outside the records: {}", shown());
+        assert!(reals.margins_are(real_filling), "written outside the reals: {}", shown());
+        assert!(out.margins_are(byte_filling), "written outside the output: {}", shown());
+        (told_of(ours.1[0], ours.0), text)
+    }
+
+    /// The same with output enough.
+    fn compare_whole(self) -> (u32, Vec<u8>) {
+        self.compare(scene::MOST_BYTES)
+    }
+
+    /// The most primitives and the most reals of the three texts, of those that are accepted.
+    fn most(self) -> [usize; 2] {
+        let counts: Vec<Counts> = self.texts.iter().filter_map(|text| counts_of(self.mode, text)).collect();
+        let most = |part: fn(&Counts) -> usize| counts.iter().map(part).max().unwrap_or(0);
+        [most(|counts| counts.primitives), most(|counts| counts.reals)]
+    }
+}
+
+/// The statements of an accepted text, each with all its words.
+fn statements_of(text: &[u8]) -> Vec<scenes::Words> {
+    tidy::statements(text).into_iter().map(|lines| lines.concat()).collect()
+}
+
+/// A text to check: one that was accepted or another one, as it is or changed.
+fn typed(random: &mut Random, mode: u32, accepted: &[u8]) -> Vec<u8> {
+    let mut statements = statements_of(accepted);
+    let size = statements.len();
+    match random.below(12) {
+        0..=2 => return scenes::faulty(random, &statements),
+        3 => return accepted.to_vec(),
+        4 => statements.push(scenes::statement_below(random, mode, &statements)),
+        5 => drop(statements.pop()),
+        6 if size > 0 => {
+            let again = statements[random.below(size)].clone();
+            statements.push(again);
+        }
+        7 if size > 1 => statements[size - 1] = statements[random.below(size - 1)].clone(),
+        8 | 9 if size > 1 => (0..2).for_each(|_| statements.swap(random.below(size), random.below(size))),
+        10 => scenes::edit(random, mode, &mut statements),
+        _ => statements.iter_mut().for_each(|words| scenes::respell(random, words)),
+    }
+    scenes::in_words(random, &statements)
+}
+
+/// Rooms for a table whose used entries are so many at most: enough, just enough, or too few.
+fn some_room(random: &mut Random, most: usize, used: usize, each: usize) -> usize {
+    match random.below(10) {
+        0..=3 => each * used + random.below(each),
+        4 => (each * used).saturating_sub(1 + random.below(2 * each)),
+        5 => each * (used + 1),
+        6 => each * most + random.below(30),
+        _ => each * most,
+    }
+}
+
+/// A joined text is accepted when it is typed, with the hands exchanged too; and joined with an unchanged hand, or with itself, it stays, but
+/// for the spelling of an unchanged left hand.
+fn compare_joined_again(hands: Hands, joined: &[u8]) {
+    let [base, left, right] = hands.texts;
+    for texts in [[base, left, right], [base, right, left], [base, base, joined], [base, joined, base]] {
+        let again = Hands { texts, typed: Some(joined), ..hands };
+        assert_eq!(again.compare(joined.len()).0, 0, "{}", again.shown(joined.len()));
+    }
+    for texts in [[base, joined, base], [base, joined, joined]] {
+        let again = Hands { texts, ..hands };
+        assert!(again.compare(joined.len()) == (0, joined.to_vec()), "{}", again.shown(joined.len()));
+    }
+}
+
+#[test]
+fn joins_are_alike() {
+    let mut random = random(28);
+    let mut joins = Tally::new("edits joined (in hundreds 1 base, 2 left, 3 right, 4 joined)");
+    let mut checks = Tally::new("typed joins checked (in hundreds 1 base, 2 left, 3 right, 4 typed)");
+    for _ in 0..scene_count() / 8 {
+        let scenes::Edits { mode, texts } = scenes::edits(&mut random);
+        let whole = Hands { mode, ..Hands::with_most(texts.each_ref().map(Vec::as_slice)) };
+        let [primitives, reals] = whole.most();
+        let records = some_room(&mut random, scene::MOST_RECORDS, primitives, RECORD);
+        let reals = some_room(&mut random, scene::MOST_REALS, reals, 1);
+        let lent = Hands { records, reals, ..whole };
+        joins.add(lent.compare(scene::MOST_BYTES + random.below(3)).0);
+        let (answer, joined) = whole.compare_whole();
+        joins.add(answer);
+        if answer == 0 {
+            compare_joined_again(whole, &joined);
+            let len = joined.len();
+            for room in [len, len + random.below(9), len.saturating_sub(1), random.below(len + 1)] {
+                joins.add(whole.compare(room).0);
+            }
+        }
+        // What is typed comes of the joined text, or of another that is accepted
+        let other = texts.iter().rev().find(|text| counts_of(mode, text).is_some());
+        let source = Some(&joined).filter(|_| answer == 0).or(other);
+        let typed = typed(&mut random, mode, source.map_or(&[], Vec::as_slice));
+        let len = typed.len();
+        for hands in [lent, whole] {
+            let checked = Hands { typed: Some(&typed), ..hands };
+            for room in [len, len + 5, len.saturating_sub(1), random.below(len + 1)] {
+                checks.add(checked.compare(room).0);
+            }
+        }
+    }
+    let named = |text: usize| reasons().filter(|&reason| reason > 0).map(move |reason| told_of(text, reason));
+    let of_hands = || (1..=3).flat_map(named).chain([0, 23, 29, 30, 31]);
+    joins.report(of_hands().chain([6, 13, 25, 26].map(|reason| told_of(4, reason))), 8_000);
+    checks.report(of_hands().chain(named(4)).chain([32]), 10_000);
+}
+
+/// What joining gives in the new reading: the text, or the answer that is no acceptance.
+fn joined(texts: [&str; 3]) -> Result<String, u32> {
+    let (answer, text) = Hands::with_most(texts.map(str::as_bytes)).compare_whole();
+    if answer == 0 {
+        Ok(String::from_utf8(text).expect("these are plain"))
+    } else {
+        Err(answer)
+    }
+}
+
+/// A base and what two hands made of it, and the statements of their join in order, or the answer that is none; by the shorthands of
+/// [`written`].
+type Join = ([&'static str; 3], Result<&'static str, u32>);
+
+const JOINS: [Join; 23] = [
+    (["", "", ""], Ok("")),
+    // One hand changes, adds or drops; the other leaves the base's, in another spelling too
+    (["l1", "l2", "l1"], Ok("l2")),
+    (["l1", "l01", "l2"], Ok("l2")),
+    (["l1", "l2", "l+1"], Ok("l2")),
+    (["l1", "l1", ""], Ok("")),
+    (["", "b1", "a1"], Ok("a1 b1")),
+    // Both alike: the left spelling stays
+    (["l1", "l2", "l2."], Ok("l2")),
+    (["l1", "l2.", "l2"], Ok("l2.")),
+    (["l1", "", ""], Ok("")),
+    // Both differently; one of them drops it; 0 and -0 are two
+    (["l1", "l2", "l3"], Err(30)),
+    (["l1", "", "l3"], Err(30)),
+    (["", "l0", "l-0"], Err(30)),
+    (["l1", "l0", "l1.0"], Ok("l0")),
+    // The name of a modifier counts, not what it leads to; and so with an alias and its target
+    (["a1 b<a", "a2 b<a", "a1 b<a"], Ok("a2 b<a")),
+    (["a1 b1 c=a", "a1 b1 c=b", "a2 b1 c=a"], Ok("a2 b1 c=b")),
+    (["a1 b1 c=a", "a1 b1 c=b", "a1 b1 c1"], Err(30)),
+    // The least of the names whose needs stand, by bytes
+    (["", "b1 a<b", "B1 ab1"], Ok("B1 ab1 b1 a<b")),
+    (["", "z1 y<z x=y", "w1"], Ok("w1 z1 y<z x=y")),
+    // A need that is missing, that is a surface, and needs in a loop
+    (["a1 b1", "b1", "a1 b<a"], Err(31)),
+    (["a1 b1", "a* b1", "a1 b<a"], Err(31)),
+    (["a1 b1", "b1 a<b", "a1 b=a"], Err(31)),
+    // A name twice, surfaces counted, comes before names changed differently
+    (["l1", "l2 a1 a*", "l3"], Err(29)),
+    (["l1 l1", "l2", "l3"], Err(29)),
+];
+
+/// Statements by their shorthands: `l1` a light of that value, `l<m` one under a modifier, `l=m` an alias and `l*` a sphere.
+fn written(shorthands: &str) -> String {
+    let statement = |word: &str| {
+        let at = word.find(|c: char| !c.is_ascii_alphabetic()).expect("a sign or a value");
+        let (name, rest) = word.split_at(at);
+        match rest.split_at(1) {
+            ("<", modifier) => format!("{modifier} light {name}\n0\n0\n3 1 1 1\n"),
+            ("=", target) => format!("void alias {name} {target}\n"),
+            ("*", _) => format!("void sphere {name}\n0\n0\n4 0 0 0 1\n"),
+            _ => format!("void light {name}\n0\n0\n3 {rest} 1 1\n"),
+        }
+    };
+    shorthands.split_whitespace().map(statement).collect()
+}
+
+#[test]
+fn definitions_are_joined_alike() {
+    for (shorthands, expected) in JOINS {
+        let texts = shorthands.map(written);
+        let found = joined(texts.each_ref().map(String::as_str));
+        assert_eq!(found, expected.map(written), "{shorthands:?}");
+    }
+}
+
+/// Sides of mixtures are not waited for, but have to be there in the end.
+#[test]
+fn mixtures_are_joined_alike() {
+    let mix = |name: &str, side: &str| format!("void mixfunc {name}\n4 {side} void v f\n0\n0\n");
+    let lamp = |name: &str| written(&format!("{name}1"));
+    let [m_n, n_m] = [mix("m", "n"), mix("n", "m")];
+    let [m, n] = ["m", "n"].map(|name| mix(name, "void"));
+    let base = [m.as_str(), &n].concat();
+    assert_eq!(joined(["", &[mix("a", "b"), lamp("b")].concat(), ""]), Ok([mix("a", "b"), lamp("b")].concat()));
+    assert_eq!(joined([&lamp("b"), "", &[mix("a", "b"), lamp("b")].concat()]), Err(425));
+    assert_eq!(joined([&base, &[m_n.as_str(), &n].concat(), &base]), Ok([m_n.as_str(), &n].concat()));
+    assert_eq!(joined([&base, &[m_n.as_str(), &n].concat(), &[m.as_str(), &n_m].concat()]), Err(426));
+}
+
+/// Of several reasons the first in the order of the header is given.
+#[test]
+fn refusals_of_joining_come_in_order() {
+    let light = |value: &str| written(&format!("l{value}")).into_bytes();
+    let (one, two, three, twice) = (light("1"), light("2"), light("3"), [light("1"), light("1")].concat());
+    let typed = written("l4").into_bytes();
+    let answer = |texts: [&[u8]; 3], typed: Option<&[u8]>, records, reals, room| {
+        Hands { mode: 0, texts, typed, records, reals }.compare(room).0
+    };
+    let check = |texts, typed, room| answer(texts, Some(typed), RECORD * 2, 6, room);
+    for typed in [None, Some(&b"!"[..]), Some(&typed)] {
+        let answer = |texts| answer(texts, typed, RECORD * 3, 9, 0);
+        assert_eq!(answer([b"!", b"!", b"!"]), 104);
+        assert_eq!(answer([&twice, b"!", b"void"]), 204);
+        assert_eq!(answer([&twice, &two, b"void"]), 305);
+        assert_eq!(answer([&twice, &two, &three]), 29);
+        assert_eq!(
+            [[&one, &twice, &three], [&one, &two, &twice]].map(|texts| answer(texts.map(Vec::as_slice))),
+            [29; 2]
+        );
+        assert_eq!(answer([&one, &two, &three]), 30);
+        // A name that is changed differently comes before a need that is missing
+        let [base, left, right] = ["k1 l1", "k2", "k3 l1 n<l"].map(|shorthands| written(shorthands).into_bytes());
+        assert_eq!(answer([&base, &left, &right]), 30);
+        assert_eq!(answer([&one, b"", &written("l1 n<l").into_bytes()]), 31);
+    }
+    let texts: [&[u8]; 3] = [&one, &two, &one];
+    assert_eq!(check(texts, b"!", 0), 404);
+    assert_eq!(check(texts, &typed, 0), 32);
+    assert_eq!([two.len() - 1, two.len()].map(|room| check(texts, &two, room)), [23, 0]);
+    assert_eq!([two.len() - 1, two.len()].map(|room| answer(texts, None, RECORD, 3, room)), [23, 0]);
+    // All texts are read with the same room
+    assert_eq!(answer(texts, None, RECORD - 1, 3, 0), 106);
+    assert_eq!(answer(texts, None, RECORD, 2, 0), 113);
+    assert_eq!(answer([b"", &one, b""], None, RECORD - 1, 3, 0), 206);
+    assert_eq!(answer([b"", b"", &one], None, RECORD, 2, 0), 313);
+    let other = written("m1").into_bytes();
+    assert_eq!(answer([b"", &one, &other], None, RECORD * 2 - 1, 6, 0), 406);
+    assert_eq!(answer([b"", &one, &other], None, RECORD * 2, 5, 0), 413);
+    assert_eq!(answer([b"", &one, &other], Some(&[other.as_slice(), &one].concat()), RECORD * 2, 5, 0), 413);
+}
+
+/// Joins that just meet a limit or are just past it: of bytes, of primitives and of reals.
+#[test]
+fn large_joins_are_alike() {
+    let most = scene::MOST_BYTES;
+    for (size, expected) in [(most - 1, 0), (most, 0), (most + 1, 401)] {
+        // The last line end is not needed, and a text without it may still be read
+        let tidy = scenes::of_size(&written("l1"), size);
+        let left = &tidy[..size - 1];
+        let hands = Hands::with_most([b"", left, b""]);
+        assert_eq!(hands.compare(most).0, expected, "{size} bytes");
+        assert_eq!([size - 1, 0].map(|room| hands.compare(room).0), [if expected == 0 { 23 } else { expected }; 2]);
+        // What is typed need not be tidy
+        assert_eq!(Hands { typed: Some(left), ..hands }.compare(size - 1).0, 0);
+    }
+    let [left, right] = ["l1", "r1"].map(|lamp| scenes::of_size(&written(lamp), 40_000));
+    let other = String::from_utf8(right.clone()).expect("plain").replace("mixfunc m", "mixfunc n").into_bytes();
+    assert_eq!(Hands::with_most([b"", &left, &right]).compare_whole().0, 0);
+    assert_eq!(Hands::with_most([b"", &left, &other]).compare_whole().0, 401);
+
+    let lamps = |name: char, count: usize| -> Vec<u8> {
+        (0..count).flat_map(|n| format!("void light {name}{n} 0 0 3 1 1 1\n").into_bytes()).collect()
+    };
+    for (more, expected) in [(512, 0), (513, 406)] {
+        assert_eq!(Hands::with_most([b"", &lamps('l', 512), &lamps('r', more)]).compare_whole().0, expected);
+    }
+    let [all, others] = ['l', 'r'].map(|name| lamps(name, scene::MOST_RECORDS));
+    assert_eq!(Hands::with_most([&all, &all, &others]).compare_whole().0, 0);
+    for (more, expected) in [(2_048, 0), (2_049, 413)] {
+        let reals = |name: &str, count: usize| {
+            format!("void mixfunc {name} 4 void void c d 0 {count}{}", " 1".repeat(count)).into_bytes()
+        };
+        assert_eq!(Hands::with_most([b"", &reals("l", 2_048), &reals("r", more)]).compare_whole().0, expected);
+    }
+    // Each waits for the one of the next larger name
+    let chain: Vec<u8> = (0..1_024)
+        .rev()
+        .flat_map(|n| {
+            let modifier = if n == 1_023 { "void".to_owned() } else { format!("l{:04}", n + 1) };
+            format!("{modifier} light l{n:04}\n0\n0\n3 1 1 1\n").into_bytes()
+        })
+        .collect();
+    for texts in [[b"", chain.as_slice(), b""], [b"", b"", chain.as_slice()], [chain.as_slice(); 3]] {
+        assert!(Hands::with_most(texts).compare_whole() == (0, chain.clone()));
+    }
 }
 
 // ---- words

@@ -1,5 +1,6 @@
 /* A host program in C: reads a small scene, and prints its names, its finishes, its index, what its mixtures show, where its order
- * mattered, what is new in a later save, its tidy text, its glass moved, its sorted text and a few float answers. */
+ * mattered, what is new in a later save, its tidy text, its glass moved, its sorted text, two edits of it joined and a few float
+ * answers. */
 #include "kribbelsteen.h"
 
 #include <math.h>
@@ -175,6 +176,31 @@ static void print_sorted(const char *scene, size_t room) {
     printf("sorted=%u place=%zu length=%zu\n", (unsigned)reason, answer[0], answer[1]);
 }
 
+static void print_joined(const char *base, const char *left, const char *right, const char *typed, size_t room) {
+    static uint8_t out[512];
+    const uint8_t *texts[3] = {(const uint8_t *)base, (const uint8_t *)left, (const uint8_t *)right};
+    size_t answer[5], at;
+    uint32_t reason;
+    memset(out, 9, sizeof out);
+    if (typed == NULL)
+        reason = kribbelsteen_join(KRIBBELSTEEN_NEW, texts[0], strlen(base), texts[1], strlen(left), texts[2], strlen(right), records,
+                                   ROOM * KRIBBELSTEEN_RECORD, reals, 32, out, room, answer);
+    else
+        reason = kribbelsteen_check_join(KRIBBELSTEEN_NEW, texts[0], strlen(base), texts[1], strlen(left), texts[2], strlen(right),
+                                         (const uint8_t *)typed, strlen(typed), records, ROOM * KRIBBELSTEEN_RECORD, reals, 32, out,
+                                         room, answer);
+    printf("%s=%u text=%zu place=%zu length=%zu primitives=%zu reals=%zu\n%.*s", typed == NULL ? "joined" : "checked",
+           (unsigned)reason, answer[0], answer[1], answer[2], answer[3], answer[4], (int)answer[2], (const char *)out);
+    for (at = answer[2]; at < room; at++) {
+        if (out[at] != 0)
+            printf("byte %zu is left\n", at);
+    }
+    for (at = answer[3] * KRIBBELSTEEN_RECORD; at < ROOM * KRIBBELSTEEN_RECORD; at++) {
+        if (records[at] != 0)
+            printf("entry %zu is left\n", at);
+    }
+}
+
 static void print_words(const char *text) {
     size_t at = 0, word[2];
     for (;;) {
@@ -274,6 +300,10 @@ int main(void) {
                        "deskfront sphere right_knob 0 0 4 1 0 0 .02\n";
     const char *panes = "void glass clear 0 0 3 .96 .96 .96\nvoid glass grey 0 0 4 .5 .5 .5 1.52\n";
     const char *old = "void antimatter hole 1 void 0 0\nhole alias slot hole\n";
+    const char *plain = "void plastic wall 0 0 5 .5 .5 .5 0 0\nwall sphere knob 0 0 4 0 0 0 1\n";
+    const char *painted = "void plastic wall 0 0 5 .2 .2 .2 0 0\nwall sphere knob 0 0 4 0 0 0 1\n";
+    const char *lit = "void light bulb 0 0 3 1 1 1\nvoid plastic wall 0 0 5 0.5 .5 .5 0 0\nwall sphere knob 0 0 4 0 0 0 1\n";
+    const char *both = "void plastic wall 0 0 5 .2 .2 .2 0 0\nvoid light bulb 0 0 3 1 1 1.\nwall sphere knob 0 0 4 0 0 0 1\n";
     print_scene(KRIBBELSTEEN_NEW, sample);
     print_scene(KRIBBELSTEEN_NEW, "a sphere s 0 0 4 0 0 0 1");
     print_scene(KRIBBELSTEEN_NEW, "void sphere s 0 0 4 0 0 0 0");
@@ -308,6 +338,16 @@ int main(void) {
     print_sorted("void light bulb 0 0 3 1 1 1\n\n# the end", 512);
     print_sorted("void light bulb 0 0 3 1 1 1\rvoid alias lamp bulb\n", 512);
     print_sorted("void", 512);
+    print_joined(plain, painted, lit, NULL, 512);
+    print_joined(plain, painted, lit, NULL, 16);
+    print_joined(plain, painted, lit, both, strlen(both));
+    print_joined(plain, painted, lit, both, strlen(both) - 1);
+    print_joined(plain, painted, lit, painted, 512);
+    print_joined(plain, painted, lit, "void", 512);
+    print_joined(plain, painted, "a", NULL, 512);
+    print_joined(sample, painted, lit, NULL, 512);
+    print_joined("void light bulb 0 0 3 1 1 1", "void light bulb 0 0 3 1 2 1", "", both, 512);
+    print_joined("void light bulb 0 0 3 1 1 1", "", "void light bulb 0 0 3 1 1 1 bulb light lamp 0 0 3 1 1 1", NULL, 512);
     print_words(" void\tlight ");
     print_floats();
     print_screen("void plastic trim 0 0 5 .2 .2 .2 0 0\n"

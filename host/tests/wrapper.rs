@@ -232,7 +232,7 @@ fn numbers_and_reasons_agree() {
     for number in (1..=16).filter(|number| *number != 11).chain(24..=28) {
         assert_eq!(Reason::from_number(number).map(Reason::number), Some(number));
     }
-    assert_eq!([0, 11, 17, 23, 29, 33, 34].map(Reason::from_number), [None; 7]);
+    assert_eq!([0, 11, 17, 23, 29, 30, 31, 32, 33, 34].map(Reason::from_number), [None; 10]);
     for number in 1..=25 {
         let kind = Type::from_number(number).expect("25 types");
         assert_eq!(kind as u32, number);
@@ -382,6 +382,116 @@ fn a_scene_with_other_lines_is_not_sorted() {
     assert_eq!(crowded.to_string(), "two statements on a line (reason 34), at byte 28");
     assert_eq!([unended, crowded].map(Unwritten::number), [33, 34]);
     assert_eq!(refused(b"void light lamp 0 0 3 1 1 1 void alias bulb lamp"), Unwritten::LastLineNotEnded { place: 48 });
+}
+
+/// A wall with a knob on it; then the wall painted anew, and in another hand's scene a shelf beside the knob.
+const PLAIN: &[u8] = b"void plastic wall 0 0 5 .5 .5 .5 0 0\nwall sphere knob 0 0 4 0 0 0 1\n";
+const PAINTED: &[u8] = b"void plastic wall 0 0 5 .2 .2 .2 0 0 # grey\nwall sphere knob 0 0 4 0 0 0 1\n";
+const SHELVED: &[u8] = b"void plastic wall 0 0 05 0.5 .50 .5 0 0\nwall sphere knob 0 0 4 0 0 0 1.\n\
+    wall polygon Shelf 0 0 9 0 0 0 1 0 0 0 1 0\n";
+
+#[test]
+fn edits_are_joined() {
+    let edits = Edits { base: PLAIN, left: PAINTED, right: SHELVED };
+    let expected = b"void plastic wall\n0\n0\n5 .2 .2 .2 0 0\nwall polygon Shelf\n0\n0\n9 0 0 0 1 0 0 0 1 0\n\
+        wall sphere knob\n0\n0\n4 0 0 0 1\n";
+    let (mut records, mut reals, mut out) = ([9; RECORD * 4 + 3], [9.0; 20], [9; 120]);
+    let joined = join(Mode::New, edits, &mut records, &mut reals, &mut out).expect("each name is changed by one hand");
+    assert_eq!(joined.text, expected);
+    assert_eq!(joined.scene.counts(), Counts { primitives: 3, reals: 18 });
+    assert_eq!(
+        joined.scene.primitives().map(|p| p.name().bytes).collect::<Vec<_>>(),
+        [&b"wall"[..], b"Shelf", b"knob"]
+    );
+    assert_eq!(joined.scene.finish(2), Ok(Finish { material: Some(1), links: 1 }));
+    assert!(records[RECORD * 3..].iter().all(|&entry| entry == 0) && reals[18..] == [0.0; 2]);
+    assert!(out[expected.len()..].iter().all(|&byte| byte == 0));
+    // The other hand's spelling of what both have
+    let turned = Edits { left: SHELVED, right: PAINTED, ..edits };
+    let joined = join(Mode::New, turned, &mut records, &mut reals, &mut out).expect("as before");
+    assert_eq!(joined.text, [&expected[..expected.len() - 1], b".\n"].concat());
+    let len = expected.len();
+    assert!(join(Mode::New, edits, &mut records, &mut reals, &mut out[..len]).is_ok());
+    let small = join(Mode::New, edits, &mut records, &mut reals, &mut out[..len - 1]);
+    assert_eq!(small.unwrap_err(), Unjoined::OutputTooSmall);
+    assert_eq!((records, reals), ([0; RECORD * 4 + 3], [0.0; 20]));
+    assert!(out[..len - 1].iter().all(|&byte| byte == 0));
+}
+
+#[test]
+fn a_typed_join_is_checked() {
+    let edits = Edits { base: PLAIN, left: PAINTED, right: SHELVED };
+    let typed = b"# both\nvoid plastic wall 0 0 5 .20 .2 2e-1 0 0\nwall sphere knob 0 0 4 0 0 0 1\n\
+        wall polygon Shelf 0 0 9 0 0 0 1 0 0 0 1 0\n";
+    let (mut records, mut reals, mut out) = ([9; RECORD * 4], [9.0; 21], [9; 160]);
+    let checked = check_join(Mode::New, edits, typed, &mut records, &mut reals, &mut out).expect("it holds just these");
+    assert_eq!((checked.text, checked.scene.counts()), (&typed[..], Counts { primitives: 3, reals: 18 }));
+    assert_eq!(checked.scene.name(3), Ok(&b"Shelf"[..]));
+    let mut refused = |typed: &[u8]| {
+        let refused = check_join(Mode::New, edits, typed, &mut records, &mut reals, &mut out).expect_err("refused");
+        assert!(records == [0; RECORD * 4] && reals == [0.0; 21] && out == [0; 160]);
+        (records, reals, out) = ([9; RECORD * 4], [9.0; 21], [9; 160]);
+        refused
+    };
+    // The shelf is missing, and a light is too many
+    assert_eq!(refused(PAINTED), Unjoined::OtherDefinitions);
+    assert_eq!(refused(&[&typed[..], b"void light l 0 0 3 1 1 1"].concat()), Unjoined::OtherDefinitions);
+    let refusal = Refusal { reason: Reason::TextEnds, place: typed.len() + 4 };
+    let ends = refused(&[&typed[..], b"void"].concat());
+    assert_eq!(ends, Unjoined::Refused { text: JoinText::Joined, refusal });
+    assert_eq!(
+        ends.to_string(),
+        format!("joined scene: text ends inside a statement (reason 5), at byte {}", refusal.place)
+    );
+}
+
+/// A white wall, and one with a shelf on it.
+const WHITE: &[u8] = b"void plastic wall 0 0 5 1 1 1 0 0\n";
+const WHITE_SHELVED: &[u8] = b"void plastic wall 0 0 5 1 1 1 0 0\nwall polygon shelf 0 0 9 0 0 0 1 0 0 0 1 0\n";
+
+#[test]
+fn edits_are_not_joined() {
+    let (mut records, mut reals, mut out) = ([9; RECORD * 4], [9.0; 20], [9; 99]);
+    let mut refused = |base: &[u8], left: &[u8], right: &[u8]| {
+        let edits = Edits { base, left, right };
+        let refused = join(Mode::New, edits, &mut records, &mut reals, &mut out).expect_err("refused");
+        assert!(records == [0; RECORD * 4] && reals == [0.0; 20] && out == [0; 99]);
+        (records, reals, out) = ([9; RECORD * 4], [9.0; 20], [9; 99]);
+        refused
+    };
+    let no_modifier = |text| {
+        let refusal = Refusal { reason: Reason::NoModifier, place: 0 };
+        Unjoined::Refused { text, refusal }
+    };
+    let bad = b"a sphere s 0 0 4 0 0 0 1";
+    assert_eq!(refused(bad, bad, bad), no_modifier(JoinText::Base));
+    assert_eq!(refused(PLAIN, bad, bad), no_modifier(JoinText::Left));
+    let right = refused(WHITE, PLAIN, bad);
+    assert_eq!(right, no_modifier(JoinText::Right));
+    assert_eq!(right.to_string(), "right scene: modifier not defined above (reason 7), at byte 0");
+    assert_eq!(
+        std::error::Error::source(&right).map(ToString::to_string),
+        Some("modifier not defined above (reason 7), at byte 0".to_owned())
+    );
+    let twice = refused(PLAIN, PLAIN, &[PLAIN, b"void light knob 0 0 3 1 1 1"].concat());
+    let changed = refused(PLAIN, PAINTED, WHITE);
+    let unordered = refused(WHITE, b"", WHITE_SHELVED);
+    assert_eq!([twice, changed, unordered], [Unjoined::NameTwice, Unjoined::BothChanged, Unjoined::NoOrder]);
+    let all = [twice, changed, unordered, Unjoined::OtherDefinitions, Unjoined::OutputTooSmall, right];
+    assert_eq!(all.map(Unjoined::number), [29, 30, 31, 32, 23, 7]);
+    assert_eq!(
+        all[..5].iter().map(ToString::to_string).collect::<Vec<_>>(),
+        [
+            "a name stands twice in one scene (reason 29)",
+            "both hands changed one name differently (reason 30)",
+            "no order puts each definition after those it needs (reason 31)",
+            "the typed scene holds other definitions (reason 32)",
+            "the output is too small (reason 23)",
+        ]
+    );
+    let missing = refused(WHITE, b"", b"void plastic wall 0 0 5 1 1 1 0 0 void mixfunc m 4 void wall v f 0 0");
+    let refusal = Refusal { reason: Reason::SideNotDefined, place: 22 };
+    assert_eq!(missing, Unjoined::Refused { text: JoinText::Joined, refusal });
 }
 
 #[test]

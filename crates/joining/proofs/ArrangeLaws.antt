@@ -23,7 +23,7 @@ use Rattle.scene.specs.Statement.{Body, Statement, alias, primitive, void}
 
 -- ---- what stands above
 
-found-hit : (w : Bytes) (d : List Statement) → isFound w d ≡ true → (s : Statement) × In s d × (hits w s ≡ true)
+pub found-hit : (w : Bytes) (d : List Statement) → isFound w d ≡ true → (s : Statement) × In s d × (hits w s ≡ true)
 unfolding found
 found-hit w [] e = absurd (false≢true e)
 found-hit w (s ∷ d) e = go (hits w s) refl e (found-hit w d)
@@ -32,7 +32,7 @@ found-hit w (s ∷ d) e = go (hits w s) refl e (found-hit w d)
     go true q e f = (s, inl refl, q)
     go false q e f = let k = f e in (k .0, inr (k .1), k .2)
 
-hit-found : (w : Bytes) (d : List Statement) (s : Statement) → In s d → hits w s ≡ true → isFound w d ≡ true
+pub hit-found : (w : Bytes) (d : List Statement) (s : Statement) → In s d → hits w s ≡ true → isFound w d ≡ true
 unfolding found
 hit-found w [] s i h = absurd i
 hit-found w (t ∷ d) s i h = go (hits w t) refl i (λ j. hit-found w d s j h)

@@ -1,20 +1,28 @@
 -- Equal definitions are an equivalence, and what stands under a name.
-use mathlib.Core.Bool.{Bool, true, false, not, _&&_, _||_, cond, or-true, false≢true}
+use mathlib.Core.Bool.{Bool, true, false, not, _&&_, cond, false≢true}
 use mathlib.Core.List.{List, [], _∷_, _++_}
-use mathlib.Core.Option.{Option, none, some, Option·none-ne-some, Option·some-injective}
+use mathlib.Core.Logic.{_⊎_, inl, inr}
+use mathlib.Core.Option.{Option, none, some, orElse, Option·none-ne-some, Option·some-ne-none}
 use mathlib.Core.Path.{_≡_, refl, ap, sym, _∙_, subst}
 use borrow.Author.Tests.{eq-eqb, eqb-true}
 use lib.Dec.{eqb}
 use lib.Ieee.{Float, binary64, toBits}
 use Rattle.bits.proofs.BitsLaws.{reals-same}
 use Rattle.bits.specs.Bits.{sameReals}
+use Rattle.content.specs.Content.{sameWords}
 use Rattle.keys.proofs.OrderLaws.{eqb-sym, same-sym}
-use Rattle.laws.proofs.BoolLaws.{and-left, and-right, not-true}
+use Rattle.laws.proofs.BoolLaws.{and-left, and-right}
 use Rattle.laws.proofs.BytesLaws.{same-eq, same-refl}
 use Rattle.laws.proofs.CompareLaws.{ByElement}
 use Rattle.laws.specs.Bytes.{Bytes, same}
 use Rattle.scene.specs.Statement.{Body, Statement, alias, numbers, primitive}
-use Rattle.joining.specs.Definition.{named, namesOnce, sameBody, sameDefinition, sameWords, stands}
+use Rattle.joining.specs.Definition.{named, namesOnce, sameBody, sameDefinition, stands}
+
+-- two tests that pass together are one
+pub same-bool : (a b : Bool) → (a ≡ true → b ≡ true) → (b ≡ true → a ≡ true) → a ≡ b
+same-bool true b f g = sym (f refl)
+same-bool false true f g = g refl
+same-bool false false f g = refl
 
 -- ---- an equivalence
 
@@ -114,9 +122,12 @@ definition-trans (some s) (some t) (some u) =
 
 -- ---- the statement of a name
 
-pub absent : (x : Option Statement) → stands x ≡ false → x ≡ none
-absent none e = refl
-absent (some s) e = absurd (false≢true (sym e))
+pub not-same : (v w : Bytes) → (v ≡ w → ⊥) → same v w ≡ false
+not-same v w f = go (same v w) refl
+  where
+    go : (b : Bool) → same v w ≡ b → b ≡ false
+    go true e = absurd (f (same-eq v w e))
+    go false e = refl
 
 pub named-equal : (v w : Bytes) (d : List Statement) → same v w ≡ true → named v d ≡ named w d
 named-equal v w d e = ap (λ (x : Bytes). named x d) (same-eq v w e)
@@ -130,30 +141,43 @@ module _ (w : Bytes) where
   unfolding named
   named-behind s d e = rw e
 
-  pub stands-cons : (s : Statement) (d : List Statement) → stands (named w (s ∷ d)) ≡ (same w (s .name) || stands (named w d))
+  -- where none has the name
+  pub none-cons : (s : Statement) (d : List Statement) → named w (s ∷ d) ≡ none → (same w (s .name) ≡ false) × (named w d ≡ none)
   unfolding named
-  stands-cons s d = go (same w (s .name))
+  none-cons s d = go (same w (s .name))
     where
-      go : (b : Bool) → stands (cond b (some s) (named w d)) ≡ (b || stands (named w d))
-      go true = refl
-      go false = refl
+      go : (b : Bool) → cond b (some s) (named w d) ≡ none → (b ≡ false) × (named w d ≡ none)
+      go true e = absurd (Option·some-ne-none s e)
+      go false e = (refl, e)
 
-  -- what is found has the name
-  pub named-name : (d : List Statement) (s : Statement) → named w d ≡ some s → s .name ≡ w
-  unfolding named
-  named-name [] s e = absurd (Option·none-ne-some s e)
-  named-name (t ∷ d) s e = go (same w (t .name)) refl e (named-name d s)
+  -- of two lists
+  pub named-append : (a b : List Statement) → named w (a ++ b) ≡ orElse (named w a) (named w b)
+  unfolding named orElse
+  named-append [] b = refl
+  named-append (s ∷ a) b = go (same w (s .name)) (named-append a b)
     where
-      go : (b : Bool) → same w (t .name) ≡ b → cond b (some t) (named w d) ≡ some s → (named w d ≡ some s → s .name ≡ w) → s .name ≡ w
-      go true q h f = sym (ap (λ (x : Statement). x .name) (Option·some-injective t s h)) ∙ sym (same-eq w (t .name) q)
-      go false q h f = f h
+      go : (p : Bool) → named w (a ++ b) ≡ orElse (named w a) (named w b) → cond p (some s) (named w (a ++ b)) ≡ orElse (cond p (some s) (named w a)) (named w b)
+      go true h = refl
+      go false h = h
+
+  pub none-append : (a b : List Statement) → named w (a ++ b) ≡ none → (named w a ≡ none) × (named w b ≡ none)
+  unfolding orElse
+  none-append a b e = go (named w a) (sym (named-append a b) ∙ e)
+    where
+      go : (x : Option Statement) → orElse x (named w b) ≡ none → (x ≡ none) × (named w b ≡ none)
+      go none h = (refl, h)
+      go (some s) h = absurd (Option·some-ne-none s h)
 
 -- ---- names that stand once
 
 module _ (s : Statement) (d : List Statement) where
   pub once-here : namesOnce (s ∷ d) ≡ true → named (s .name) d ≡ none
   unfolding namesOnce
-  once-here o = absent (named (s .name) d) (not-true (stands (named (s .name) d)) (and-left (not (stands (named (s .name) d))) (namesOnce d) o))
+  once-here o = go (named (s .name) d) (and-left (not (stands (named (s .name) d))) (namesOnce d) o)
+    where
+      go : (x : Option Statement) → not (stands x) ≡ true → x ≡ none
+      go none e = refl
+      go (some t) e = absurd (false≢true e)
 
   pub once-behind : namesOnce (s ∷ d) ≡ true → namesOnce d ≡ true
   unfolding namesOnce
@@ -165,27 +189,18 @@ module _ (s : Statement) (d : List Statement) where
 
   -- a name found behind s is not that of s
   pub named-later : namesOnce (s ∷ d) ≡ true → (w : Bytes) (t : Statement) → named w d ≡ some t → named w (s ∷ d) ≡ some t
-  named-later o w t e = go (same w (s .name)) refl
-    where
-      go : (b : Bool) → same w (s .name) ≡ b → named w (s ∷ d) ≡ some t
-      go true q = absurd (Option·none-ne-some t (sym (once-here o) ∙ sym (named-equal w (s .name) d q) ∙ e))
-      go false q = named-behind w s d q ∙ e
+  named-later o w t e = named-behind w s d (not-same w (s .name) (λ q. Option·none-ne-some t (sym (once-here o) ∙ sym (ap (λ (x : Bytes). named x d) q) ∙ e))) ∙ e
 
--- ---- two lists
-
-pub stands-append : (w : Bytes) (a b : List Statement) → stands (named w (a ++ b)) ≡ (stands (named w a) || stands (named w b))
-unfolding named
-stands-append w [] b = refl
-stands-append w (s ∷ a) b = go (same w (s .name)) (stands-append w a b)
-  where
-    go : (p : Bool) → stands (named w (a ++ b)) ≡ (stands (named w a) || stands (named w b)) → stands (cond p (some s) (named w (a ++ b))) ≡ (stands (cond p (some s) (named w a)) || stands (named w b))
-    go true h = refl
-    go false h = h
-
--- where no name of the one is one of the other
-pub once-append : (a b : List Statement) → namesOnce a ≡ true → namesOnce b ≡ true → ((w : Bytes) → stands (named w a) ≡ true → stands (named w b) ≡ false) → namesOnce (a ++ b) ≡ true
+-- where no name stands in both
+pub once-append : (a b : List Statement) → namesOnce a ≡ true → namesOnce b ≡ true → ((w : Bytes) → (named w a ≡ none) ⊎ (named w b ≡ none)) → namesOnce (a ++ b) ≡ true
+unfolding orElse
 once-append [] b o p apart = p
-once-append (s ∷ a) b o p apart = once-more s (a ++ b) (absent (named (s .name) (a ++ b)) new) (once-append a b (once-behind s a o) p (λ w e. apart w (stands-cons w s a ∙ rw e (or-true (same w (s .name))))))
+once-append (s ∷ a) b o p apart = once-more s (a ++ b) (new (apart (s .name))) (once-append a b (once-behind s a o) p (λ w. less w (apart w)))
   where
-    new : stands (named (s .name) (a ++ b)) ≡ false
-    new = stands-append (s .name) a b ∙ rw (once-here s a o) (apart (s .name) (ap stands (named-here s a)))
+    new : (named (s .name) (s ∷ a) ≡ none) ⊎ (named (s .name) b ≡ none) → named (s .name) (a ++ b) ≡ none
+    new (inl e) = absurd (Option·some-ne-none s (sym (named-here s a) ∙ e))
+    new (inr e) = named-append (s .name) a b ∙ rw (once-here s a o) e
+
+    less : (w : Bytes) → (named w (s ∷ a) ≡ none) ⊎ (named w b ≡ none) → (named w a ≡ none) ⊎ (named w b ≡ none)
+    less w (inl e) = inl (none-cons w s a e .1)
+    less w (inr e) = inr e

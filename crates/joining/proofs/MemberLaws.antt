@@ -13,7 +13,16 @@ module _ {A : Type 0} where
   In x [] = ⊥
   In x (y ∷ ys) = (x ≡ y) ⊎ In x ys
 
-  pub in-middle : (xs : List A) (c : A) (ys : List A) → In c (xs ++ c ∷ ys)
+  pub in-append : (xs ys : List A) (x : A) → In x (xs ++ ys) → In x xs ⊎ In x ys
+  in-append [] ys x i = inr i
+  in-append (y ∷ xs) ys x (inl e) = inl (inl e)
+  in-append (y ∷ xs) ys x (inr i) = go (in-append xs ys x i)
+    where
+      go : In x xs ⊎ In x ys → In x (y ∷ xs) ⊎ In x ys
+      go (inl j) = inl (inr j)
+      go (inr j) = inr j
+
+  in-middle : (xs : List A) (c : A) (ys : List A) → In c (xs ++ c ∷ ys)
   in-middle [] c ys = inl refl
   in-middle (x ∷ xs) c ys = inr (in-middle xs c ys)
 

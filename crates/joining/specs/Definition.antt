@@ -4,6 +4,7 @@ use mathlib.Core.List.{List, [], _∷_}
 use mathlib.Core.Option.{Option, none, some}
 use lib.Dec.{eqb}
 use Rattle.bits.specs.Bits.{sameReals}
+use Rattle.content.specs.Content.{sameWords}
 use Rattle.laws.specs.Bytes.{Bytes, same}
 use Rattle.scene.specs.Statement.{Body, Statement, alias, numbers, primitive}
 
@@ -22,12 +23,6 @@ namesOnce [] = true
 namesOnce (s ∷ d) = not (stands (named (s .name) d)) && namesOnce d
 
 -- ---- "two are equal as in L1 with modifiers and targets by name, an alias by these alone"
-
-unfoldable pub sameWords : List Bytes → List Bytes → Bool
-sameWords [] [] = true
-sameWords [] (y ∷ ys) = false
-sameWords (x ∷ xs) [] = false
-sameWords (x ∷ xs) (y ∷ ys) = same x y && sameWords xs ys
 
 -- type, strings and the bits of the reals
 unfoldable pub sameBody : Body → Body → Bool

@@ -3,3 +3,4 @@ pub mod Definition
 pub mod Pick
 pub mod Arranged
 pub mod Joined
+pub mod Outcome

@@ -14,7 +14,7 @@ use Rattle.scene.proofs.FlatLaws.{flat-length, record-in}
 use Rattle.scene.proofs.TellsLaws.{At, at, nth-at, records-length, tells-told, read-read}
 use Rattle.scene.specs.HouseRules.{zeroReal}
 use Rattle.scene.specs.Reading.{Reading, Entry, statements, accepted, readStatements}
-use Rattle.scene.specs.Record.{Record, records, nth, realTable, width, flat, recordImage, realImage}
+use Rattle.scene.specs.Record.{Record, records, nth, realTable, recordIn, width, flat, recordImage, realImage}
 use Rattle.scene.specs.declared.Settings.{Settings}
 use Rattle.scene.specs.Told.{Told, tells, told, wordsFrom}
 use Rattle.keys.specs.Key.{from}
@@ -53,10 +53,15 @@ module _ (r : Settings) (text : Bytes) (es : List Entry) (reads : readStatements
   row-full k h = subst (λ (t : Told). length (t .reals) ≡ t .realCount) (sym (row-told k (at es k h))) refl
 
   module _ (lent doubles : ℕ) where
+    -- what the tables say of one, whatever stands behind their used entries
+    pub row-read : (n : ℕ) → n < length es → tells text (realImage doubles (accepted es)) (recordIn (recordImage text lent (accepted es)) (suc n)) ≡ tells text (realTable es) (nth (records es) (suc n))
+    unfolding recordImage realImage
+    row-read n h = ap (tells text (realImage doubles (accepted es))) (record-in text (records es) lent (suc n)) ∙ tells-padded text (realTable es) (replicate (doubles - length (realTable es)) zeroReal) (nth (records es) (suc n)) (row-full n h)
+
     rows-to : (n : ℕ) → n ≤ length es → rowsIn text (recordImage text lent (accepted es)) (realImage doubles (accepted es)) n ≡ rowsTo text es n
-    unfolding rowsIn rowsTo recordImage realImage
+    unfolding rowsIn rowsTo
     rows-to zero h = refl
-    rows-to (suc n) h = λ i. (ap (tells text (realImage doubles (accepted es))) (record-in text (records es) lent (suc n)) ∙ tells-padded text (realTable es) (replicate (doubles - length (realTable es)) zeroReal) (nth (records es) (suc n)) (row-full n h)) i ∷ rows-to n (omega arith) i
+    rows-to (suc n) h = λ i. row-read n h i ∷ rows-to n (omega arith) i
 
     -- the rows of a text read into tables of any sizes
     pub rows-read : rowsIn text (recordImage text lent (readStatements r text)) (realImage doubles (readStatements r text)) (length es) ≡ rowsOf text es

@@ -1,6 +1,6 @@
 // The entry points for host programs, under C's calling convention: numbers, slices and small arrays, no precondition. Each is
 // the call of the same promise in `host_reading`, `host_scenes`, `host_shown`, `host_saves`, `host_lines`, `host_writing`,
-// `host_moving`, `host_sorting`, `host_precedence`, `host_rays`, `host_polygon`, `host_pane`, `ranks` or `root`.
+// `host_moving`, `host_sorting`, `host_precedence`, `host_joining`, `host_rays`, `host_polygon`, `host_pane`, `ranks` or `root`.
 ghost use mathlib.Core.List.{[], _∷_};
 ghost use mathlib.Core.Path.{_≡_};
 ghost use lib.ListN.{length, replicate};
@@ -9,6 +9,7 @@ ghost use Rattle.fresnel.specs.Fresnel.{fresnelOf};
 ghost use Rattle.hits.specs.Ahead.{defaultLeast};
 ghost use Rattle.hits.specs.Ring.{ringHit};
 ghost use Rattle.hits.specs.Sphere.{sphereHit};
+ghost use Rattle.host_joining.specs.Host.{HostChecks, HostProposes};
 ghost use Rattle.host_lines.specs.Host.{HostLine};
 ghost use Rattle.host_lines.specs.Ordered.{HostOrdered};
 ghost use Rattle.host_moving.specs.Host.{HostMoves};
@@ -270,6 +271,42 @@ pub extern "C" fn kribbelsteen_mattered(
     ensures { λ _. ⌜ now (answer .exit) ≡ valuesOf (orderOf (now (text .entry)) (now (records .entry)) count first second) ⌝ }
 {
     host_precedence::tell_order(text, records, count, first, second, answer)
+}
+
+// Proposes a join of two hands' edits of a base: the reason or 0, and the text a refusal names, its place, and the length and counts of
+// the joined text.
+#[no_mangle]
+pub extern "C" fn kribbelsteen_join(
+    mode: u32,
+    base: &[u8],
+    left: &[u8],
+    right: &[u8],
+    records: &mut [u32],
+    reals: &mut [f64],
+    out: &mut [u8],
+    answer: &mut [usize; 5],
+) -> u32
+    ensures { λ r. ⌜ HostProposes mode (now (base .entry)) (now (left .entry)) (now (right .entry)) (now (records .entry)) (now (reals .entry)) (now (out .entry)) r (now (answer .exit)) (now (records .exit)) (now (reals .exit)) (now (out .exit)) ⌝ }
+{
+    host_joining::tell_proposed(mode, base, left, right, records, reals, out, answer)
+}
+
+// Checks a typed join: as above.
+#[no_mangle]
+pub extern "C" fn kribbelsteen_check_join(
+    mode: u32,
+    base: &[u8],
+    left: &[u8],
+    right: &[u8],
+    typed: &[u8],
+    records: &mut [u32],
+    reals: &mut [f64],
+    out: &mut [u8],
+    answer: &mut [usize; 5],
+) -> u32
+    ensures { λ r. ⌜ HostChecks mode (now (base .entry)) (now (left .entry)) (now (right .entry)) (now (typed .entry)) (now (records .entry)) (now (reals .entry)) (now (out .entry)) r (now (answer .exit)) (now (records .exit)) (now (reals .exit)) (now (out .exit)) ⌝ }
+{
+    host_joining::tell_checked(mode, base, left, right, typed, records, reals, out, answer)
 }
 
 // A ray on a sphere: 0 hit, 1 miss, or the refusal's number, and the distance.

@@ -31,10 +31,17 @@ unfolding tidy parse
 tidy-parse r [] h = refl
 tidy-parse r (s ∷ d) h = join r (tidy d) (statementText s) d (s ∷ []) (tidy-parse r d (h .1)) (statement-read r s (h .0))
 
+tidy-whole : (r : Settings) (d : List Statement) → AllProper (r .mode) d → parse r gap idle (tidy d ++ newline) ≡ pass gap idle d
+unfolding parse isBlank
+tidy-whole r d h = join r (tidy d) newline d [] (tidy-parse r d h) refl
+
 -- the tidy text of proper and sound statements reads as they are
 pub tidy-reads : (r : Settings) (d : List Statement) → AllProper (r .mode) d → Sound r d → length (tidy d) ≤ 65536 → (es : List Entry) × (readStatements r (tidy d) ≡ accepted es) × (statements es ≡ d)
-unfolding parse isBlank
-tidy-reads r d h s fits = accept-back r (tidy d) d (le-leb (length (tidy d)) 65536 fits) (join r (tidy d) newline d [] (tidy-parse r d h) refl) s
+tidy-reads r d h s fits = accept-back r (tidy d) d (le-leb (length (tidy d)) 65536 fits) (tidy-whole r d h) s
+
+-- and where that of proper ones is accepted, whatever the room, it reads as they are: the syntax alone says which statements are read
+pub tidy-meant : (r : Settings) (d : List Statement) → AllProper (r .mode) d → (es : List Entry) → readStatements r (tidy d) ≡ accepted es → statements es ≡ d
+tidy-meant r d h es e = cc (accept-forth r (tidy d) es e .1, tidy-whole r d h)
 
 -- what was accepted is proper
 pub accepted-proper : (r : Settings) (text : Bytes) (es : List Entry) → readStatements r text ≡ accepted es → AllProper (r .mode) (statements es)

@@ -76,19 +76,19 @@ module _ (r : Settings) (text : Bytes) (es : List Entry) (k : ℕ) (reads : read
   Says n s = numbered (statements es) n ≡ some s
 
   module _ (n : ℕ) (s : Statement) (says : Says n s) where
-    range : (0 < n) × (n ≤ length es)
+    pub range : (0 < n) × (n ≤ length es)
     range = let a = split (statements es) n s says in let l = ap length (a .whole) ∙ length-append (a .later) (s ∷ a .earlier) in (omega (arith, a .number), omega (arith, a .number, l, statements-length es))
 
-    here : At es (n - 1)
+    pub here : At es (n - 1)
     here = at es (n - 1) (omega (arith, range .0, range .1))
 
     number : n ≡ suc (length (here .x))
     number = omega (arith, range .0, here .number)
 
-    own : here .e .statement ≡ s
+    pub own : here .e .statement ≡ s
     own = let h : some (here .e .statement) ≡ some s = sym (entry-at es n (range .0) here) ∙ says in cc
 
-    name-of : nameIn text table n ≡ s .name
+    pub name-of : nameIn text table n ≡ s .name
     unfolding recordImage
     name-of = ap (nameIn text table) number ∙ name-is text es k (here .l) (here .e) (here .x) (here .split) (read-read r text es reads) ∙ ap (λ (x : Statement). x .name) own
 

@@ -4,7 +4,7 @@ use super::numerals;
 use crate::reference::index::{hash, INDEX};
 use crate::reference::mixtures::MIXFUNC;
 use crate::reference::random::Random;
-use crate::reference::scene::{pairs_needed, MOST_REALS, MOST_RECORDS, RECORD};
+use crate::reference::scene::{self, pairs_needed, MOST_BYTES, MOST_REALS, MOST_RECORDS, RECORD};
 
 /// A mode by its number, a text, and how many entries are lent.
 pub struct Case {
@@ -33,7 +33,8 @@ fn mode(random: &mut Random) -> u32 {
     *random.pick(&[0, 0, 0, ARCHIVE, ARCHIVE, ARCHIVE, 2, u32::MAX])
 }
 
-type Words = Vec<Vec<u8>>;
+/// The words of a statement.
+pub type Words = Vec<Vec<u8>>;
 
 /// Type, how many strings and how many reals it may have.
 const TYPES: [(&str, &[usize], &[usize]); 25] = [
@@ -282,7 +283,8 @@ const COMMENTS: [&[u8]; 6] =
     [b"# note \xff!\n", b"\n", b"  \t\n", b"#\n", b" # trailing\r\n", b"#void sphere s 0 0 4\x00\n"];
 const ENDS: [&[u8]; 8] = [b"!run it\n", b"# the end", b"!", b"void", b"void sphere", b"#", b" ", b"\x00"];
 
-fn joined(random: &mut Random, statements: &[Words]) -> Vec<u8> {
+/// A text of statements, with spacing and comments of its own.
+pub fn in_words(random: &mut Random, statements: &[Words]) -> Vec<u8> {
     let mut out = Vec::new();
     for words in statements {
         if random.percent(15) {
@@ -296,6 +298,12 @@ fn joined(random: &mut Random, statements: &[Words]) -> Vec<u8> {
             out.push(b'\n');
         }
     }
+    out
+}
+
+/// The same, now and then with an end that is refused.
+fn joined(random: &mut Random, statements: &[Words]) -> Vec<u8> {
+    let mut out = in_words(random, statements);
     if random.percent(5) {
         out.extend_from_slice(ENDS[random.below(ENDS.len())]);
     }
@@ -755,6 +763,272 @@ pub fn lined(random: &mut Random) -> Case {
     let text = in_lines(random, &statements);
     let damages = usize::from(random.percent(5));
     lent_for(random, mode, text, &statements, damages)
+}
+
+// ---- two hands' edits
+
+/// A base and both hands' texts, read in a mode.
+pub struct Edits {
+    pub mode: u32,
+    pub texts: [Vec<u8>; 3],
+}
+
+fn words(statement: &str) -> Words {
+    statement.split(' ').map(|word| word.as_bytes().to_vec()).collect()
+}
+
+fn is_given_by(words: &Words) -> bool {
+    !TYPES[..FIRST_MATERIAL].iter().any(|(surface, ..)| words[1] == surface.as_bytes())
+}
+
+fn stands(name: &[u8], statements: &[Words]) -> bool {
+    statements.iter().any(|words| words[2] == name)
+}
+
+/// A name that none of these statements has.
+fn new_name(random: &mut Random, statements: &[Words]) -> Vec<u8> {
+    let mut found = name(random);
+    while stands(&found, statements) {
+        found = format!("{}{}", random.pick(&["n", "N", "~", "0"]), random.below(1_000)).into_bytes();
+    }
+    found
+}
+
+/// A statement with a name of its own that is likely to be accepted below the others.
+pub fn statement_below(random: &mut Random, mode: u32, statements: &[Words]) -> Words {
+    let mut given = Given::default();
+    statements.iter().for_each(|words| given.give(&words[2], !is_given_by(words)));
+    let mut words = statement(random, mode, &mut given);
+    words[2] = new_name(random, statements);
+    words
+}
+
+fn is_accepted(mode: u32, statements: &[Words]) -> bool {
+    let text = statements.iter().map(|words| words.join(&b' ')).collect::<Vec<_>>().join(&b'\n');
+    let (mut records, mut reals) = (vec![0; RECORD * statements.len()], vec![0.0; MOST_REALS]);
+    scene::read_without_pairs(mode == ARCHIVE, &text, &mut records, &mut reals).is_ok()
+}
+
+/// An accepted scene, each name once.
+fn each_name_once(random: &mut Random, mode: u32, size: usize) -> Vec<Words> {
+    let mut statements = Vec::new();
+    for _ in 0..size {
+        statements.push(statement_below(random, mode, &statements));
+        if !is_accepted(mode, &statements) {
+            statements.pop();
+        }
+    }
+    statements
+}
+
+/// The reals of a primitive; an alias has none.
+fn reals(words: &mut Words) -> &mut [Vec<u8>] {
+    if words[1] == b"alias" {
+        return &mut [];
+    }
+    let strings = std::str::from_utf8(&words[3]).ok().and_then(|count| count.parse::<usize>().ok());
+    &mut words[strings.expect("a count is a number") + 6..]
+}
+
+/// Numerals of the same value, where one is spelled with no sign.
+pub fn respell(random: &mut Random, words: &mut Words) {
+    for real in reals(words).iter_mut().filter(|real| real[0].is_ascii_digit()) {
+        let whole = real.iter().all(u8::is_ascii_digit);
+        match random.below(4) {
+            0 => real.insert(0, b'+'),
+            1 if real.len() < 60 => real.insert(0, b'0'),
+            2 if whole => real.push(b'.'),
+            3 if whole => real.extend(b"e0"),
+            _ => {}
+        }
+    }
+}
+
+/// One statement changed, added or dropped, or the order of two; the scene may be refused then.
+pub fn edit(random: &mut Random, mode: u32, statements: &mut Vec<Words>) {
+    let size = statements.len();
+    if size == 0 || random.percent(15) {
+        return statements.push(statement_below(random, mode, statements));
+    }
+    let (at, other) = (random.below(size), random.below(size));
+    let other_name = statements[other][2].clone();
+    let changed = &mut statements[at];
+    match random.below(10) {
+        0 | 1 => {
+            if let Some(real) = reals(changed).last_mut() {
+                *real = numerals::positive(random).into_bytes();
+            }
+        }
+        2 => reals(changed).iter_mut().filter(|real| *real == b"0").for_each(|real| *real = b"-0".to_vec()),
+        3 => respell(random, changed),
+        4 => changed[0] = if random.percent(50) { b"void".to_vec() } else { other_name },
+        5 => *changed = [&changed[0], &b"alias".to_vec(), &changed[2], &other_name].map(Vec::clone).to_vec(),
+        6 => {
+            let body = random.pick(&["light _ 0 0 3 1 1 1", "sphere _ 0 0 4 0 0 0 1", "mixfunc _ 4 void void v f 0 0"]);
+            let name = changed[2].clone();
+            changed.splice(1.., words(body));
+            changed[2] = name;
+        }
+        7 => drop(statements.pop()),
+        8 => drop(statements.remove(at)),
+        _ => statements.swap(at, other),
+    }
+}
+
+/// What a hand makes of a scene: most edits after which it is refused are taken back.
+fn edited(random: &mut Random, mode: u32, statements: &[Words]) -> Vec<Words> {
+    let mut statements = statements.to_vec();
+    for _ in 0..random.below(4) {
+        let mut changed = statements.clone();
+        edit(random, mode, &mut changed);
+        if is_accepted(mode, &changed) || random.percent(2) {
+            statements = changed;
+        }
+    }
+    statements
+}
+
+/// How names of three scenes meet, _ for one and & for another: what is put into the base, the left and the right one.
+const MEETINGS: [[&[&str]; 3]; 22] = [
+    // Changed, added and dropped alike
+    [&["void light _ 0 0 3 1 1 1"], &["void light _ 0 0 3 1 2 1"], &["void light _ 0 0 3 1 2. 1"]],
+    [&[], &["void light _ 0 0 3 1 2 1"], &["void light _ 0 0 3 1 +2 1"]],
+    [&["void light _ 0 0 3 1 1 1"], &[], &[]],
+    // By one hand alone
+    [&["void light _ 0 0 3 1 1 1"], &["void light _ 0 0 3 1. 1 1"], &["void light _ 0 0 3 1 0 1"]],
+    [&["void light _ 0 0 3 1 1 1"], &["void light _ 0 0 3 1. 1 1"], &[]],
+    [&[], &["void light _ 0 0 3 1 1 1"], &["void light & 0 0 3 1 1 1"]],
+    // Differently
+    [&["void light _ 0 0 3 1 1 1"], &["void light _ 0 0 3 1 0 1"], &["void light _ 0 0 3 1 -0 1"]],
+    [&["void light _ 0 0 3 1 1 1"], &["void glow _ 0 0 4 1 1 1 1"], &[]],
+    [&[], &["void light _ 0 0 3 1 1 1"], &["void sphere _ 0 0 4 1 1 1 1"]],
+    [
+        &["void light _ 0 0 3 1 1 1", "void light & 0 0 3 1 1 1"],
+        &["void light _ 0 0 3 1 1 1", "void alias & _"],
+        &["void light _ 0 0 3 1 1 1", "_ light & 0 0 3 1 1 1"],
+    ],
+    // Needed by one hand, and dropped or made a surface by the other
+    [&["void light _ 0 0 3 1 1 1"], &[], &["void light _ 0 0 3 1 1 1", "_ sphere & 0 0 4 0 0 0 1"]],
+    [&["void light _ 0 0 3 1 1 1"], &[], &["void light _ 0 0 3 1 1 1", "void alias & _"]],
+    [&["void light _ 0 0 3 1 1 1"], &["void sphere _ 0 0 4 0 0 0 1"], &["void light _ 0 0 3 1 1 1", "void alias & _"]],
+    // Each needed by the other
+    [
+        &["void light _ 0 0 3 1 1 1", "void light & 0 0 3 1 1 1"],
+        &["void light & 0 0 3 1 1 1", "& light _ 0 0 3 1 1 1"],
+        &["void light _ 0 0 3 1 1 1", "void alias & _"],
+    ],
+    // Turned round by one hand
+    [
+        &["void light _ 0 0 3 1 1 1", "_ light & 0 0 3 1 1 1"],
+        &["void light & 0 0 3 1 1 1", "& light _ 0 0 3 1 1 1"],
+        &["void light _ 0 0 3 1 1 1", "_ light & 0 0 3 1 1 1"],
+    ],
+    // Mixed by one hand, and dropped by the other; and each mixed by the other
+    [&["void light _ 0 0 3 1 1 1"], &[], &["void light _ 0 0 3 1 1 1", "void mixfunc & 4 void _ v f 0 0"]],
+    [
+        &["void mixfunc _ 4 void void v f 0 0", "void light & 0 0 3 1 1 1"],
+        &["void mixfunc _ 4 & void v f 0 0", "void light & 0 0 3 1 1 1"],
+        &["void mixfunc _ 4 void void v f 0 0", "_ light & 0 0 3 1 1 1"],
+    ],
+    [
+        &["void mixfunc _ 4 void void v f 0 0", "void mixfunc & 4 void void v f 0 0"],
+        &["void mixfunc _ 4 & void v f 0 0", "void mixfunc & 4 void void v f 0 0"],
+        &["void mixfunc _ 4 void void v f 0 0", "void mixfunc & 4 void _ v f 0 0"],
+    ],
+    // Defined below the mixture, which is no need
+    [&[], &["void mixfunc & 4 _ void v f 0 0", "void light _ 0 0 3 1 1 1"], &[]],
+    // Twice in one
+    [&["void light _ 0 0 3 1 1 1", "void light _ 0 0 3 1 1 1"], &[], &[]],
+    [&[], &["void sphere _ 0 0 4 0 0 0 1", "void light _ 0 0 3 1 1 1"], &[]],
+    [&[], &[], &["void sphere _ 0 0 4 0 0 0 1", "void sphere _ 0 0 4 0 0 0 1"]],
+];
+
+/// Statements that are refused, by 2 to 16, 25, 26 and 28, but for 6 and 13, which need short tables; and two that are no statements.
+const FAULTS: [&[u8]; 17] = [
+    b"void light caf\xe9 0 0 3 1 1 1",
+    b"void light nnnnnnnnnnnnnnnnnnnnnnnnnnnnnnnnnnnnnnnnnnnnnnnnnnnnnnnnnnnnnnnnn 0 0 3 1 1 1",
+    b"!run it",
+    b"void light",
+    b"nowhere light new 0 0 3 1 1 1",
+    b"void plane new 0 0 0",
+    b"void light void 0 0 3 1 1 1",
+    b"void alias new nowhere",
+    b"void light new 0 0 4 1 1 1 1",
+    b"void light new 0 0 3 1 1..1 1",
+    b"void light new 0 0 3 1 1e23 1",
+    b"void sphere new 0 0 4 0 0 0 0",
+    b"void mixfunc new 4 nowhere void v f.cal 0 0",
+    b"void mixfunc new 4 void new v f.cal 0 0",
+    b"void antimatter new 1 void 0 0",
+    b"",
+    b"",
+];
+
+/// The one of these that stands last.
+const UNENDED: usize = 3;
+
+/// A text of statements with a fault among them or behind them, with too many bytes, or damaged.
+pub fn faulty(random: &mut Random, statements: &[Words]) -> Vec<u8> {
+    let fault = random.below(FAULTS.len());
+    let last = fault == UNENDED || random.percent(30);
+    let at = if last { statements.len() } else { random.below(statements.len() + 1) };
+    let mut text = in_words(random, &statements[..at]);
+    text.extend_from_slice(FAULTS[fault]);
+    if at < statements.len() || random.percent(50) {
+        text.push(b'\n');
+    }
+    text.extend(in_words(random, &statements[at..]));
+    match fault {
+        15 => damage(random, &mut text),
+        16 => text.resize(MOST_BYTES + 1, b'#'),
+        _ => {}
+    }
+    text
+}
+
+/// A base and what two hands made of it; now and then one of the texts has a fault, or is any other.
+pub fn edits(random: &mut Random) -> Edits {
+    let mode = mode(random);
+    let size = if random.percent(97) { random.below(8) } else { random.within(8, 80) };
+    let base = each_name_once(random, mode, size);
+    let [left, right] = [(); 2].map(|()| edited(random, mode, &base));
+    let mut scenes = [base, left, right];
+    for _ in 0..*random.pick(&[0, 0, 1, 1, 2]) {
+        let all = scenes.concat();
+        let one = new_name(random, &all);
+        let other = new_name(random, &[all, vec![vec![Vec::new(), Vec::new(), one.clone()]]].concat());
+        let meeting = *random.pick(&MEETINGS);
+        // A modifier may not begin as a comment or a command does
+        if [&one, &other].iter().all(|name| !name.starts_with(b"#") && !name.starts_with(b"!")) {
+            for (statements, added) in scenes.iter_mut().zip(meeting) {
+                statements.extend(added.iter().map(|statement| {
+                    let named = |word: Vec<u8>| match word.as_slice() {
+                        b"_" => one.clone(),
+                        b"&" => other.clone(),
+                        _ => word,
+                    };
+                    words(statement).into_iter().map(named).collect::<Words>()
+                }));
+            }
+        }
+        if random.percent(50) {
+            scenes.swap(1, 2);
+        }
+    }
+    let faulty_one = if random.percent(25) { random.below(3) } else { 3 };
+    let mut number = 0;
+    let texts = scenes.map(|statements| {
+        let has_fault = number == faulty_one;
+        number += 1;
+        if has_fault {
+            faulty(random, &statements)
+        } else if random.percent(1) {
+            case_in(random, mode).text
+        } else {
+            in_words(random, &statements)
+        }
+    });
+    Edits { mode, texts }
 }
 
 // ---- names that collide

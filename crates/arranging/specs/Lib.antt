@@ -1,0 +1,3 @@
+-- Inner models of the proofs.
+pub mod Order
+pub mod Both

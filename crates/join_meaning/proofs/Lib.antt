@@ -1,0 +1,13 @@
+pub mod NumberedLaws
+pub mod KeptLaws
+pub mod TurnLaws
+pub mod OrderLaws
+pub mod PickingLaws
+pub mod ChoiceLaws
+pub mod MarkLaws
+pub mod MatchedLaws
+pub mod HandLaws
+pub mod MeantLaws
+pub mod PlanLaws
+pub mod WrittenLaws
+pub mod UsedLaws

@@ -1,0 +1,35 @@
+-- What the parts of the joining calls promise.
+use mathlib.Core.Bool.{true}
+use mathlib.Core.List.{List, _++_}
+use mathlib.Core.Path.{_≡_}
+use Prim.Native.Nat.{ℕ}
+use lib.Ieee.{Float}
+use lib.ListN.{length}
+use Rattle.join_meaning.specs.Kept.{inTurn}
+use Rattle.join_meaning.specs.Written.{Numbers}
+use Rattle.joiner.specs.Answer.{Joins}
+use Rattle.joiner.specs.declared.Answer.{Answer}
+use Rattle.joining.specs.Outcome.{Outcome, checkPlan, fitted, planned, proposePlan, readAs}
+use Rattle.laws.specs.Bytes.{Bytes}
+use Rattle.reader.specs.Answer.{readInto}
+use Rattle.scene.specs.Reading.{Entry, accepted, statements}
+use Rattle.scene.specs.Record.{realImage, realTable, recordImage, settingsFor}
+use Rattle.scene.specs.declared.Mode.{Mode}
+use Rattle.sides.specs.Read.{read}
+
+-- an accepted text with the tables of its reading
+pub record Settles (text : Bytes) (records : List ℕ) (reals : List Float) (out : Bytes) (count doubles : ℕ) (r : Answer) (records′ : List ℕ) (reals′ : List Float) (out′ : Bytes) : Type 0 where
+  pub joins : (es : List Entry) → records ≡ recordImage text (length records) (accepted es) → reals ≡ realImage (length reals) (accepted es) → count ≡ length es → doubles ≡ length (realTable es)
+      → Joins (fitted (length out) text es) records reals out r records′ reals′ out′
+
+abbrev pub readProposed : Mode → Bytes → (records : List ℕ) (reals : List Float) (room : ℕ) → Outcome
+readProposed mode text records reals room = readAs (λ d. true) room text (readInto mode text records reals)
+
+-- where both hands' texts are accepted and the order has their numbers
+pub record ProposesOrder (mode : Mode) (left right : Bytes) (order : List ℕ) (records : List ℕ) (reals : List Float) (out : Bytes) (r : Answer) (records′ : List ℕ) (reals′ : List Float) (out′ : Bytes) : Type 0 where
+  pub joins : (ls rs : List Entry) → let s = settingsFor mode (length records) (length reals) in read s left ≡ accepted ls → read s right ≡ accepted rs → Numbers (length (statements ls ++ statements rs)) order
+      → Joins (proposePlan s (length out) (planned (inTurn (statements ls ++ statements rs) order))) records reals out r records′ reals′ out′
+
+pub record ChecksOrder (mode : Mode) (left right typed : Bytes) (order : List ℕ) (records : List ℕ) (reals : List Float) (out : Bytes) (r : Answer) (records′ : List ℕ) (reals′ : List Float) (out′ : Bytes) : Type 0 where
+  pub joins : (ls rs : List Entry) → let s = settingsFor mode (length records) (length reals) in read s left ≡ accepted ls → read s right ≡ accepted rs → Numbers (length (statements ls ++ statements rs)) order
+      → Joins (checkPlan s typed (length out) (planned (inTurn (statements ls ++ statements rs) order))) records reals out r records′ reals′ out′

@@ -1,0 +1,1 @@
+// What the matches of two accepted texts say of their statements: laws, no function.

@@ -11,7 +11,7 @@ use lib.ListN.{length, getD, set, length-set}
 use lib.Seq.{getD-set-same, getD-set-other}
 use Rattle.laws.proofs.BoolLaws.{not-false, not-true, or-false-left, or-false-right}
 use Rattle.laws.proofs.NatLaws.{le-or-lt}
-use Rattle.grouping.specs.Code.{Choosing, Chose, Kept, Known, Looked, Waiting, isBetter, left, leftFrom, passed, placed}
+use Rattle.grouping.specs.Code.{Choosing, Chose, Kept, Known, Looked, Waiting, left, leftFrom, passed, placed}
 use Rattle.grouping.specs.Grouped.{better, choice, free}
 
 and-false : (b : Bool) → (b && false) ≡ false
@@ -30,7 +30,7 @@ module _ (held : ℕ → ℕ → Bool) (type : ℕ → ℕ) (p : ℕ → Bool) w
       go false f e = not-true (held i k) e
 
   -- nothing before k holds it back
-  free-clear : (a m k : ℕ) → ((i : ℕ) → a < i → i < k → passed held p i k ≡ true) → free held type (leftFrom p a m) k ≡ true
+  free-clear : (a m k : ℕ) → ((i : ℕ) → a < i → i < k → passed held p i k ≡ true) → free held (leftFrom p a m) k ≡ true
   unfolding free leftFrom
   free-clear a zero k f = refl
   free-clear a (suc m) k f = go (p (a + 1)) refl (free-clear (a + 1) m k (λ i h l. f i (omega arith) l))
@@ -39,12 +39,12 @@ module _ (held : ℕ → ℕ → Bool) (type : ℕ → ℕ) (p : ℕ → Bool) w
       apart e true l = passed-apart (a + 1) k (f (a + 1) (omega arith) (ltb-true (a + 1) k l)) e
       apart e false l = refl
 
-      go : (b : Bool) → p (a + 1) ≡ b → free held type (leftFrom p (a + 1) m) k ≡ true → free held type (cond b (leftFrom p (a + 1) m) ((a + 1) ∷ leftFrom p (a + 1) m)) k ≡ true
+      go : (b : Bool) → p (a + 1) ≡ b → free held (leftFrom p (a + 1) m) k ≡ true → free held (cond b (leftFrom p (a + 1) m) ((a + 1) ∷ leftFrom p (a + 1) m)) k ≡ true
       go true e h = h
       go false e h = λ t. not (apart e (ltb (a + 1) k) refl t) && h t
 
   -- i holds k back
-  free-held : (a m i k : ℕ) → a < i → i ≤ a + m → i < k → passed held p i k ≡ false → free held type (leftFrom p a m) k ≡ false
+  free-held : (a m i k : ℕ) → a < i → i ≤ a + m → i < k → passed held p i k ≡ false → free held (leftFrom p a m) k ≡ false
   unfolding free leftFrom passed
   free-held a zero i k h l n e = absurd (omega arith)
   free-held a (suc m) i k h l n e = go (λ q. free-held (a + 1) m i k q (omega arith) n e) (le-or-lt i (a + 1))
@@ -52,14 +52,14 @@ module _ (held : ℕ → ℕ → Bool) (type : ℕ → ℕ) (p : ℕ → Bool) w
       whole : Bool → List ℕ
       whole b = cond b (leftFrom p (a + 1) m) ((a + 1) ∷ leftFrom p (a + 1) m)
 
-      here : i ≡ a + 1 → free held type (whole (p (a + 1))) k ≡ false
+      here : i ≡ a + 1 → free held (whole (p (a + 1))) k ≡ false
       here q = rw (subst (λ (j : ℕ). p j ≡ false) q (or-false-left (p i) (not (held i k)) e), lt-ltb (a + 1) k (omega (arith, n, q)), subst (λ (j : ℕ). held j k ≡ true) q (not-false (held i k) (or-false-right (p i) (not (held i k)) e)))
 
-      later : (b : Bool) → free held type (leftFrom p (a + 1) m) k ≡ false → free held type (whole b) k ≡ false
+      later : (b : Bool) → free held (leftFrom p (a + 1) m) k ≡ false → free held (whole b) k ≡ false
       later true f = f
       later false f = rw f (and-false (not (ltb (a + 1) k && held (a + 1) k)))
 
-      go : (a + 1 < i → free held type (leftFrom p (a + 1) m) k ≡ false) → (i ≤ a + 1) ⊎ (a + 1 < i) → free held type (whole (p (a + 1))) k ≡ false
+      go : (a + 1 < i → free held (leftFrom p (a + 1) m) k ≡ false) → (i ≤ a + 1) ⊎ (a + 1 < i) → free held (whole (p (a + 1))) k ≡ false
       go f (inl q) = here (omega arith)
       go f (inr q) = later (p (a + 1)) (f q)
 
@@ -118,7 +118,7 @@ module _ (held : ℕ → ℕ → Bool) (type : ℕ → ℕ) (last : ℕ) where
 
     module _ (r : ℕ) (w : getD S′ (k + 1) 0 ≡ k + 1 → ⊥) (h : Looked held S′ (k + 1) r) where
       -- the number that is looked at becomes the best, or does not
-      choosing-on : (b : Bool) → (free held type (left S) (k + 1) && better held type last best (k + 1)) ≡ b → Choosing held type last S (set S′ (k + 1) r) (cond b (k + 1) best) (k + 1)
+      choosing-on : (b : Bool) → (free held (left S) (k + 1) && better type last best (k + 1)) ≡ b → Choosing held type last S (set S′ (k + 1) r) (cond b (k + 1) best) (k + 1)
       unfolding choice placed
       choosing-on b e = record { kept = kept-looked held S S′ (k + 1) r (m .kept) l w h; within = omega (arith, more); goes = ap (λ (b : Bool). choice held type last (left S) (cond b (k + 1) best) (leftFrom (placed S) (k + 1) (length S - 1 - (k + 1)))) (sym e) ∙ ap (choice held type last (left S) best) (sym (left-on (placed S) k (length S - 1) false more (sym (m .kept .same (k + 1)) ∙ ne-eqb (getD S′ (k + 1) 0) (k + 1) w))) ∙ m .goes }
 
@@ -127,8 +127,8 @@ module _ (held : ℕ → ℕ → Bool) (type : ℕ → ℕ) (last : ℕ) where
       seen-same i = ap (λ (p : ℕ → Bool). passed held p i (k + 1)) (λ t j. m .kept .same j t)
 
       pub choosing-held : r + 1 < k + 1 → Choosing held type last S (set S′ (k + 1) r) best (k + 1)
-      choosing-held n = choosing-on false (ap (λ (b : Bool). b && better held type last best (k + 1)) (free-held held type (placed S) 0 (length S - 1) (r + 1) (k + 1) (omega arith) (omega (arith, m .kept .size)) n (sym (seen-same (r + 1)) ∙ h .stops n)))
+      choosing-held n = choosing-on false (ap (λ (b : Bool). b && better type last best (k + 1)) (free-held held type (placed S) 0 (length S - 1) (r + 1) (k + 1) (omega arith) (omega (arith, m .kept .size)) n (sym (seen-same (r + 1)) ∙ h .stops n)))
 
-      pub choosing-free : (b : Bool) → k + 1 ≤ r + 1 → isBetter type last best (k + 1) ≡ b → Choosing held type last S (set S′ (k + 1) r) (cond b (k + 1) best) (k + 1)
-      unfolding isBetter better
-      choosing-free b n e = choosing-on b ((λ t. free-clear held type (placed S) 0 (length S - 1) (k + 1) (λ i z a. sym (seen-same i) ∙ h .looking .clear i z (omega arith)) t && better held type last best (k + 1)) ∙ e)
+      pub choosing-free : (b : Bool) → k + 1 ≤ r + 1 → better type last best (k + 1) ≡ b → Choosing held type last S (set S′ (k + 1) r) (cond b (k + 1) best) (k + 1)
+      unfolding better
+      choosing-free b n e = choosing-on b ((λ t. free-clear held type (placed S) 0 (length S - 1) (k + 1) (λ i z a. sym (seen-same i) ∙ h .looking .clear i z (omega arith)) t && better type last best (k + 1)) ∙ e)

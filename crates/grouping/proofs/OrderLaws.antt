@@ -102,7 +102,7 @@ one-less c left t = omega (arith, ap length (t .old), ap length (t .new), length
 
 module _ (held : ℕ → ℕ → Bool) (type : ℕ → ℕ) where
   -- nothing stands before the first
-  free-first : (k b : ℕ) (is : List ℕ) → k ≤ b → Rising b is → free held type is k ≡ true
+  free-first : (k b : ℕ) (is : List ℕ) → k ≤ b → Rising b is → free held is k ≡ true
   unfolding free
   free-first k b [] h r = refl
   free-first k b (i ∷ is) h r = rw (le-ltb i k (omega (arith, r .0))) (free-first k i is (omega (arith, r .0)) (r .1))
@@ -115,60 +115,60 @@ module _ (held : ℕ → ℕ → Bool) (type : ℕ → ℕ) where
     -- of these, c comes first
     record Best (ks : List ℕ) (c : ℕ) : Type 0 where
       among : In c ks
-      comes : free held type left c ≡ true
-      least : (k : ℕ) → In k ks → free held type left k ≡ true → NoLater c k
+      comes : free held left c ≡ true
+      least : (k : ℕ) → In k ks → free held left k ≡ true → NoLater c k
 
     -- c is the best so far, or one of the further numbers
     record Chosen (best : ℕ) (ks : List ℕ) (c : ℕ) : Type 0 where
-      among : (c ≡ best) ⊎ (In c ks × (free held type left c ≡ true))
+      among : (c ≡ best) ⊎ (In c ks × (free held left c ≡ true))
       before : NoLater c best
-      least : (k : ℕ) → In k ks → free held type left k ≡ true → NoLater c k
+      least : (k : ℕ) → In k ks → free held left k ≡ true → NoLater c k
 
-    chosen-best : (k c : ℕ) (ks : List ℕ) → free held type left k ≡ true → Chosen k ks c → Best (k ∷ ks) c
+    chosen-best : (k c : ℕ) (ks : List ℕ) → free held left k ≡ true → Chosen k ks c → Best (k ∷ ks) c
     chosen-best k c ks f h = record { among = one (h .among) .0; comes = one (h .among) .1; least = all }
       where
-        one : (c ≡ k) ⊎ (In c ks × (free held type left c ≡ true)) → In c (k ∷ ks) × (free held type left c ≡ true)
-        one (inl e) = (inl e, ap (free held type left) e ∙ f)
+        one : (c ≡ k) ⊎ (In c ks × (free held left c ≡ true)) → In c (k ∷ ks) × (free held left c ≡ true)
+        one (inl e) = (inl e, ap (free held left) e ∙ f)
         one (inr i) = (inr (i .0), i .1)
 
-        all : (j : ℕ) → In j (k ∷ ks) → free held type left j ≡ true → NoLater c j
+        all : (j : ℕ) → In j (k ∷ ks) → free held left j ≡ true → NoLater c j
         all j (inl e) g = subst (NoLater c) (sym e) (h .before)
         all j (inr i) g = h .least j i g
 
-    chosen-taken : (best k c : ℕ) (ks : List ℕ) → free held type left k ≡ true → rank last (type k) < rank last (type best) → Chosen k ks c → Chosen best (k ∷ ks) c
+    chosen-taken : (best k c : ℕ) (ks : List ℕ) → free held left k ≡ true → rank last (type k) < rank last (type best) → Chosen k ks c → Chosen best (k ∷ ks) c
     chosen-taken best k c ks f l h =
         let b = chosen-best k c ks f h in
         record { among = inr (b .among, b .comes); before = (omega (arith, h .before .0), λ e. absurd (omega (arith, h .before .0))); least = b .least }
 
-    chosen-passed : (best k c : ℕ) (ks : List ℕ) → best < k → (free held type left k ≡ true → rank last (type best) ≤ rank last (type k)) → Chosen best ks c → Chosen best (k ∷ ks) c
+    chosen-passed : (best k c : ℕ) (ks : List ℕ) → best < k → (free held left k ≡ true → rank last (type best) ≤ rank last (type k)) → Chosen best ks c → Chosen best (k ∷ ks) c
     chosen-passed best k c ks l f h = record { among = later (h .among); before = h .before; least = all }
       where
-        later : (c ≡ best) ⊎ (In c ks × (free held type left c ≡ true)) → (c ≡ best) ⊎ (In c (k ∷ ks) × (free held type left c ≡ true))
+        later : (c ≡ best) ⊎ (In c ks × (free held left c ≡ true)) → (c ≡ best) ⊎ (In c (k ∷ ks) × (free held left c ≡ true))
         later (inl e) = inl e
         later (inr i) = inr (inr (i .0), i .1)
 
-        here : free held type left k ≡ true → NoLater c k
+        here : free held left k ≡ true → NoLater c k
         here g = (omega (arith, f g, h .before .0), λ e. omega (arith, h .before .1 (omega (arith, f g, h .before .0))))
 
-        all : (j : ℕ) → In j (k ∷ ks) → free held type left j ≡ true → NoLater c j
-        all j (inl e) g = subst (NoLater c) (sym e) (here (subst (λ (m : ℕ). free held type left m ≡ true) e g))
+        all : (j : ℕ) → In j (k ∷ ks) → free held left j ≡ true → NoLater c j
+        all j (inl e) g = subst (NoLater c) (sym e) (here (subst (λ (m : ℕ). free held left m ≡ true) e g))
         all j (inr i) g = h .least j i g
 
     chosen : (best : ℕ) (ks : List ℕ) → 0 < best → Rising best ks → Chosen best ks (choice held type last left best ks)
     unfolding choice better
     chosen best [] p r = record { among = inl refl; before = (omega arith, λ e. omega arith); least = λ k i. absurd i }
-    chosen best (k ∷ ks) p r = rw (ne-eqb best 0 (λ e. omega (arith, e))) (go (free held type left k) refl (ltb (rank last (type k)) (rank last (type best))) refl (chosen k ks (omega (arith, r .0)) (r .1)) (chosen best ks p (rising-lower best k ks (omega (arith, r .0)) (r .1))))
+    chosen best (k ∷ ks) p r = rw (ne-eqb best 0 (λ e. omega (arith, e))) (go (free held left k) refl (ltb (rank last (type k)) (rank last (type best))) refl (chosen k ks (omega (arith, r .0)) (r .1)) (chosen best ks p (rising-lower best k ks (omega (arith, r .0)) (r .1))))
       where
-        go : (f : Bool) → free held type left k ≡ f → (b : Bool) → ltb (rank last (type k)) (rank last (type best)) ≡ b → Chosen k ks (choice held type last left k ks) → Chosen best ks (choice held type last left best ks) → Chosen best (k ∷ ks) (choice held type last left (cond (f && b) k best) ks)
+        go : (f : Bool) → free held left k ≡ f → (b : Bool) → ltb (rank last (type k)) (rank last (type best)) ≡ b → Chosen k ks (choice held type last left k ks) → Chosen best ks (choice held type last left best ks) → Chosen best (k ∷ ks) (choice held type last left (cond (f && b) k best) ks)
         go true f true b h i = chosen-taken best k _ ks f (ltb-true (rank last (type k)) (rank last (type best)) b) h
         go true f false b h i = chosen-passed best k _ ks (r .0) (λ g. ltb-false (rank last (type k)) (rank last (type best)) b) i
         go false f b e h i = chosen-passed best k _ ks (r .0) (λ g. absurd (false≢true (sym f ∙ g))) i
 
   -- the first of those left may come, so the choice goes on from it
-  next-first : (last k : ℕ) (ks : List ℕ) → Rising 0 (k ∷ ks) → (free held type (k ∷ ks) k ≡ true) × (next held type last (k ∷ ks) ≡ choice held type last (k ∷ ks) k ks)
+  next-first : (last k : ℕ) (ks : List ℕ) → Rising 0 (k ∷ ks) → (free held (k ∷ ks) k ≡ true) × (next held type last (k ∷ ks) ≡ choice held type last (k ∷ ks) k ks)
   unfolding choice better free
   next-first last k ks r =
-      let f : free held type (k ∷ ks) k ≡ true = rw (le-ltb k k (omega arith)) (free-first k k ks (omega arith) (r .1)) in
+      let f : free held (k ∷ ks) k ≡ true = rw (le-ltb k k (omega arith)) (free-first k k ks (omega arith) (r .1)) in
       (f, ap (λ (t : Bool). choice held type last (k ∷ ks) (cond (t && true) k 0) ks) f)
 
   pub next-least : (last : ℕ) (left : List ℕ) → Rising 0 left → 0 < length left → Least held type last left (next held type last left)
@@ -197,10 +197,10 @@ module _ (held : ℕ → ℕ → Bool) (type : ℕ → ℕ) where
   unfolding grouped
   grouped-shuffle n = shuffle-from n 0 (upTo n) (up-rising n) (up-length n)
 
-  ahead-free : (c : ℕ) (left : List ℕ) → free held type left c ≡ true → Ahead held c left
+  ahead-free : (c : ℕ) (left : List ℕ) → free held left c ≡ true → Ahead held c left
   unfolding free
   ahead-free c [] f = tt
-  ahead-free c (k ∷ ks) f = (λ l. pair (ltb k c) (held k c) (lt-ltb k c l) (and-left (not (ltb k c && held k c)) (free held type ks c) f), ahead-free c ks (and-right (not (ltb k c && held k c)) (free held type ks c) f))
+  ahead-free c (k ∷ ks) f = (λ l. pair (ltb k c) (held k c) (lt-ltb k c l) (and-left (not (ltb k c && held k c)) (free held ks c) f), ahead-free c ks (and-right (not (ltb k c && held k c)) (free held ks c) f))
     where
       pair : (a b : Bool) → a ≡ true → not (a && b) ≡ true → b ≡ false
       pair true b e h = not-true b h
@@ -247,7 +247,7 @@ module _ (h h′ : ℕ → ℕ → Bool) (t t′ : ℕ → ℕ) (n : ℕ) (hs : 
   abbrev Within : List ℕ → Type 0
   Within ks = (k : ℕ) → In k ks → (0 < k) × (k ≤ n)
 
-  free-same : (left : List ℕ) (k : ℕ) → Within left → k ≤ n → free h t left k ≡ free h′ t′ left k
+  free-same : (left : List ℕ) (k : ℕ) → Within left → k ≤ n → free h left k ≡ free h′ left k
   unfolding free
   free-same [] k w l = refl
   free-same (i ∷ left) k w l = λ p. not (go (ltb i k) refl p) && free-same left k (λ j m. w j (inr m)) l p
@@ -256,7 +256,7 @@ module _ (h h′ : ℕ → ℕ → Bool) (t t′ : ℕ → ℕ) (n : ℕ) (hs : 
       go true e = hs i k (w i (inl refl) .0) (ltb-true i k e) l
       go false e = refl
 
-  better-same : (last best k : ℕ) → best ≤ n → 0 < k → k ≤ n → better h t last best k ≡ better h′ t′ last best k
+  better-same : (last best k : ℕ) → best ≤ n → 0 < k → k ≤ n → better t last best k ≡ better t′ last best k
   unfolding better
   better-same last zero k b z l = refl
   better-same last (suc best) k b z l = λ p. eqb (suc best) 0 || ltb (rank last (ts k z l p)) (rank last (ts (suc best) (omega arith) b p))
@@ -266,7 +266,7 @@ module _ (h h′ : ℕ → ℕ → Bool) (t t′ : ℕ → ℕ) (n : ℕ) (hs : 
   choice-same last left best [] w b v = refl
   choice-same last left best (k ∷ ks) w b v =
       let m = v k (inl refl) in
-      let new = free h′ t′ left k && better h′ t′ last best k in
+      let new = free h′ left k && better t′ last best k in
       (λ p. choice h t last left (cond (free-same left k w (m .1) p && better-same last best k b (m .0) (m .1) p) k best) ks)
       ∙ choice-same last left (cond new k best) ks w (cond-elim (λ (x : ℕ). x ≤ n) new (m .1) b) (λ j i. v j (inr i))
 

@@ -11,8 +11,8 @@ use lib.ListN.{getD}
 use Rattle.laws.proofs.NatLaws.{le-or-lt}
 use Rattle.scene.specs.Record.{fieldIn}
 use Rattle.table.proofs.QuestionLaws.{type-field}
-use Rattle.grouping.specs.Code.{Looked, Looking, Waiting, isBetter, passed, placed, typeIn}
-use Rattle.grouping.specs.Grouped.{rank}
+use Rattle.grouping.specs.Code.{Looked, Looking, Waiting, passed, placed, typeIn}
+use Rattle.grouping.specs.Grouped.{better, rank}
 
 -- ---- ranks
 
@@ -25,12 +25,12 @@ unfolding rank
 rank-other last t h = rw (ne-eqb t last h)
 
 module _ (T : List ℕ) (last best k : ℕ) where
-  pub better-first : best ≡ 0 → true ≡ isBetter (typeIn T) last best k
-  unfolding isBetter
+  pub better-first : best ≡ 0 → true ≡ better (typeIn T) last best k
+  unfolding better
   better-first e = rw (eq-eqb best 0 e)
 
-  pub better-rank : (t u new old : ℕ) → (best ≡ 0 → ⊥) → t ≡ fieldIn T k 0 → new ≡ rank last t → u ≡ fieldIn T best 0 → old ≡ rank last u → ltb new old ≡ isBetter (typeIn T) last best k
-  unfolding isBetter
+  pub better-rank : (t u new old : ℕ) → (best ≡ 0 → ⊥) → t ≡ fieldIn T k 0 → new ≡ rank last t → u ≡ fieldIn T best 0 → old ≡ rank last u → ltb new old ≡ better (typeIn T) last best k
+  unfolding better
   better-rank t u new old h e r f s = rw (ne-eqb best 0 h) (λ i. ltb ((r ∙ ap (rank last) (e ∙ type-field T k)) i) ((s ∙ ap (rank last) (f ∙ type-field T best)) i))
 
 -- ---- looking on

@@ -4,18 +4,14 @@ use mathlib.Core.Bool.{Bool, true, false, not, cond, _||_}
 use mathlib.Core.List.{List, [], _∷_, _++_}
 use mathlib.Core.Path.{_≡_}
 use Prim.Native.Nat.{ℕ, zero, suc, _+_, _-_, _<_, _≤_}
-use lib.Dec.{eqb, ltb}
+use lib.Dec.{eqb}
 use lib.ListN.{length, getD, take}
 use Rattle.scene.specs.Record.{recordIn}
-use Rattle.grouping.specs.Grouped.{choice, grouped, groupedFrom, next, rank}
+use Rattle.grouping.specs.Grouped.{choice, grouped, groupedFrom, next}
 
 -- the type of record n
 abbrev pub typeIn : (records : List ℕ) → ℕ → ℕ
 typeIn T n = recordIn T n .type
-
--- whether k comes before the best so far
-unfoldable pub isBetter : (type : ℕ → ℕ) → (last best k : ℕ) → Bool
-isBetter type last best k = eqb best 0 || ltb (rank last (type k)) (rank last (type best))
 
 -- whether k has its place in the order
 unfoldable pub placed : (seen : List ℕ) → ℕ → Bool

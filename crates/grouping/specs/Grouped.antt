@@ -18,20 +18,20 @@ without c (k ∷ ks) = cond (eqb k c) (without c ks) (k ∷ without c ks)
 unfoldable pub rank : (last type : ℕ) → ℕ
 rank last t = cond (eqb t last) 0 t
 
+-- k may come next: nothing that is left and stands before it is held with it
+unfoldable pub free : (held : ℕ → ℕ → Bool) → (left : List ℕ) → ℕ → Bool
+free held [] k = true
+free held (i ∷ left) k = not (ltb i k && held i k) && free held left k
+
+-- whether k is to come before the best so far, which has a lower number; 0 is none
+unfoldable pub better : (type : ℕ → ℕ) → (last best k : ℕ) → Bool
+better type last best k = eqb best 0 || ltb (rank last (type k)) (rank last (type best))
+
 module _ (held : ℕ → ℕ → Bool) (type : ℕ → ℕ) where
-  -- k may come next: nothing that is left and stands before it is held with it
-  unfoldable pub free : (left : List ℕ) → ℕ → Bool
-  free [] k = true
-  free (i ∷ left) k = not (ltb i k && held i k) && free left k
-
-  -- whether k is to come before the best so far, which has a lower number; 0 is none
-  unfoldable pub better : (last best k : ℕ) → Bool
-  better last best k = eqb best 0 || ltb (rank last (type k)) (rank last (type best))
-
   -- of numbers in rising order, of which `left` are left: the first of the least rank that may come next
   unfoldable pub choice : (last : ℕ) (left : List ℕ) (best : ℕ) → List ℕ → ℕ
   choice last left best [] = best
-  choice last left best (k ∷ ks) = choice last left (cond (free left k && better last best k) k best) ks
+  choice last left best (k ∷ ks) = choice last left (cond (free held left k && better type last best k) k best) ks
 
   abbrev pub next : (last : ℕ) (left : List ℕ) → ℕ
   next last left = choice last left 0 left

@@ -28,6 +28,6 @@ Rising b (k ∷ ks) = (b < k) × Rising k ks
 -- what each choice is: of those left that may come next, none has a lesser rank, and of its rank none has a lower number
 pub record Least (held : ℕ → ℕ → Bool) (type : ℕ → ℕ) (last : ℕ) (left : List ℕ) (c : ℕ) : Type 0 where
   pub among : In c left
-  pub comes : free held type left c ≡ true
-  pub least : (k : ℕ) → In k left → free held type left k ≡ true → rank last (type c) ≤ rank last (type k)
-  pub lowest : (k : ℕ) → In k left → free held type left k ≡ true → rank last (type c) ≡ rank last (type k) → c ≤ k
+  pub comes : free held left c ≡ true
+  pub least : (k : ℕ) → In k left → free held left k ≡ true → rank last (type c) ≤ rank last (type k)
+  pub lowest : (k : ℕ) → In k left → free held left k ≡ true → rank last (type c) ≡ rank last (type k) → c ≤ k

@@ -4,8 +4,8 @@ ghost use Prim.Native.Nat.{_+_, min};
 ghost use lib.ListN.{length, replicate};
 ghost use Rattle.scene.specs.Record.{filled, recordIn};
 ghost use Rattle.ties.specs.Ties.{heldRows};
-ghost use Rattle.grouping.specs.Code.{Chose, Known, Looked, Waiting, isBetter, typeIn};
-ghost use Rattle.grouping.specs.Grouped.{grouped, rank};
+ghost use Rattle.grouping.specs.Code.{Chose, Known, Looked, Waiting, typeIn};
+ghost use Rattle.grouping.specs.Grouped.{better, grouped, rank};
 use table::MOST_RECORDS;
 
 // The table `seen` has a place for each number from 0 on: at place k how many numbers, from 1 on, are known to hold record k back
@@ -45,7 +45,7 @@ fn rank(last: u32, kind: u32) -> u32
 
 // Whether record k comes before the best so far.
 fn is_better(records: &[u32], last: u32, best: usize, k: usize) -> bool
-    ensures { λ r. ⌜ r ≡ isBetter (typeIn (now (records .entry))) last best k ⌝ }
+    ensures { λ r. ⌜ r ≡ better (typeIn (now (records .entry))) last best k ⌝ }
 {
     if best == 0 {
         return true;

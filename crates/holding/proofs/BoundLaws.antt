@@ -5,8 +5,8 @@ use mathlib.Core.Option.{Option, none, some}
 use mathlib.Core.Path.{_≡_, refl, sym, subst₂}
 use Prim.Native.Nat.{suc}
 use Rattle.holding.proofs.SaysLaws.{Said, only}
-use Rattle.holding.specs.Chain.{boundBy, boundIn}
 use Rattle.laws.specs.Bytes.{Bytes}
+use Rattle.rearrangement.specs.Held.{both, bound, boundIn}
 use Rattle.rearrangement.proofs.HeldLaws.{independent-unbound, unbound-independent}
 use Rattle.rearrangement.specs.Cut.{Piece}
 use Rattle.rearrangement.specs.Order.{Apart}
@@ -19,13 +19,13 @@ unfolding share stands
 share-none [] = refl
 share-none (x ∷ xs) = share-none xs
 
-unbound-apart : (x y : Option Statement) → boundBy x y ≡ false → Independent (only x) (only y)
+unbound-apart : (x y : Option Statement) → both bound x y ≡ false → Independent (only x) (only y)
 unfolding given referred share
 unbound-apart none y e = record { first = refl; second = share-none (given (only y)) }
 unbound-apart (some s) none e = record { first = share-none (given (s ∷ [])); second = refl }
 unbound-apart (some s) (some t) e = unbound-independent s t e
 
-apart-unbound : (x y : Option Statement) → Independent (only x) (only y) → boundBy x y ≡ false
+apart-unbound : (x y : Option Statement) → Independent (only x) (only y) → both bound x y ≡ false
 apart-unbound none y h = refl
 apart-unbound (some s) none h = refl
 apart-unbound (some s) (some t) h = independent-unbound s t h

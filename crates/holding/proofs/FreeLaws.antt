@@ -11,10 +11,11 @@ use Rattle.holding.proofs.LateLaws.{Reached, late, late-on, late-reache
 use Rattle.holding.proofs.PartLaws.{in-those, parts-ordered, rising-those}
 use Rattle.holding.proofs.PositionLaws.{position-first, position-second}
 use Rattle.holding.proofs.SaysLaws.{Said, Says}
-use Rattle.holding.specs.Chain.{Holds, boundIn}
+use Rattle.holding.specs.Chain.{Holds}
 use Rattle.holding.specs.Mattered.{position}
 use Rattle.laws.proofs.BoolLaws.{not-true}
 use Rattle.laws.specs.Shuffle.{Shuffle}
+use Rattle.rearrangement.specs.Held.{boundIn}
 use Rattle.rearrangement.specs.Cut.{Piece}
 use Rattle.rearrangement.specs.Order.{Apart, Ordered}
 use Rattle.scene.specs.Statement.{Statement}

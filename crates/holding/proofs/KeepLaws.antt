@@ -9,9 +9,10 @@ use Rattle.holding.proofs.BoundLaws.{blocks-unbound}
 use Rattle.holding.proofs.ChainLaws.{chain-rises}
 use Rattle.holding.proofs.PositionLaws.{position-less}
 use Rattle.holding.proofs.SaysLaws.{Said, Says, all-in}
-use Rattle.holding.specs.Chain.{Chain, boundIn, link, on}
+use Rattle.holding.specs.Chain.{Chain, link, on}
 use Rattle.holding.specs.Mattered.{position}
 use Rattle.laws.specs.Shuffle.{Shuffle}
+use Rattle.rearrangement.specs.Held.{boundIn}
 use Rattle.rearrangement.proofs.PieceLaws.{shuffle-in}
 use Rattle.rearrangement.specs.Cut.{Piece}
 use Rattle.rearrangement.specs.Order.{Apart, Ordered}

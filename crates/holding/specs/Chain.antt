@@ -1,22 +1,8 @@
 -- "Did the order of two entries matter?" Entry n holds entry m, which stands below it, where a chain of entries leads from one to the
 -- other, each bound to the next.
-use mathlib.Core.Bool.{Bool, true, false}
-use mathlib.Core.List.{List}
-use mathlib.Core.Option.{Option, none, some}
+use mathlib.Core.Bool.{Bool, true}
 use mathlib.Core.Path.{_≡_}
 use Prim.Native.Nat.{ℕ, suc, _<_}
-use Rattle.rearrangement.specs.Held.{bound}
-use Rattle.scene.specs.Properties.{numbered}
-use Rattle.scene.specs.Statement.{Statement}
-
--- statements number i and j are bound: "one gives a name that the other gives or refers to"
-abbrev pub boundBy : Option Statement → Option Statement → Bool
-boundBy (some s) (some t) = bound s t
-boundBy (some s) none = false
-boundBy none t = false
-
-unfoldable pub boundIn : List Statement → ℕ → ℕ → Bool
-boundIn d i j = boundBy (numbered d i) (numbered d j)
 
 -- n = k0 < k1 < .. < kj = m, each bound to the next, with j links
 pub data Chain (tied : ℕ → ℕ → Bool) : (links n m : ℕ) → Type 0 where

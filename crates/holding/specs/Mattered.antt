@@ -6,10 +6,11 @@ use mathlib.Core.Path.{_≡_}
 use Prim.Native.Nat.{ℕ, suc, _-_, _≤_, _<_}
 use lib.Dec.{eqb}
 use lib.ListN.{length}
-use Rattle.holding.specs.Chain.{Chain, Holds, boundIn}
+use Rattle.holding.specs.Chain.{Chain, Holds}
 use Rattle.holding.specs.Shortest.{firstLink}
 use Rattle.laws.specs.Bytes.{Bytes}
 use Rattle.laws.specs.Shuffle.{Shuffle}
+use Rattle.rearrangement.specs.Held.{boundIn}
 use Rattle.rearrangement.specs.Blocks.{allBlocks, can, verdict}
 use Rattle.rearrangement.specs.Cut.{Piece, pieces, saids, textOf}
 use Rattle.rearrangement.specs.Order.{Ordered, Renumbering}

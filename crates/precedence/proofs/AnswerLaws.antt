@@ -1,5 +1,5 @@
 -- Whether two entries can be asked about, and what is answered: one law for each answer.
-use mathlib.Core.Bool.{Bool, true, false, not, cond, _&&_, _||_}
+use mathlib.Core.Bool.{Bool, true, false, not, cond, _&&_}
 use mathlib.Core.List.{List}
 use mathlib.Core.Logic.{_⊎_, inl, inr}
 use mathlib.Core.Path.{_≡_, refl, ap, sym, _∙_}
@@ -20,9 +20,8 @@ use Rattle.precedence.specs.declared.Order.{Order}
 use Rattle.precedence.specs.declared.Order.the-variants.{Free, Held, Refused}
 use Rattle.scene.specs.Record.{fieldIn, width}
 use Rattle.table.proofs.QuestionLaws.{length-field, modifier-field, name-field, target-field}
-use Rattle.table.specs.Number.{numberIn}
 use Rattle.table.specs.Question.{numberRefusal}
-use Rattle.ties.specs.Ties.{boundRows, classesTo, givesIn, refersIn}
+use Rattle.ties.specs.Ties.{boundRows, classesTo, givesTo}
 
 -- ---- records that fit
 
@@ -133,9 +132,9 @@ module _ (text : Bytes) (T : List ℕ) (count n m r : ℕ) (e : r ≡ refusalOf 
 -- ---- the first link, and the name that binds
 
 module _ (T C : List ℕ) (n k : ℕ) where
-  pub binder-is : (a b : ℕ) (p q s t : Bool) → a ≡ numberIn C n → b ≡ numberIn C k → p ≡ givesIn T k → s ≡ refersIn T C k a → q ≡ givesIn T n → (q && (p && eqb a b || s)) ≡ t → cond t n k ≡ binder T C n k
+  pub binder-is : (p t : Bool) → p ≡ givesTo T C n k → p ≡ t → cond t n k ≡ binder T C n k
   unfolding binder
-  binder-is a b p q s t e f g h l z = ap (λ (x : Bool). cond x n k) (sym z ∙ (λ i. l i && (g i && eqb (e i) (f i) || (h ∙ ap (refersIn T C k) e) i)))
+  binder-is p t e z = ap (λ (x : Bool). cond x n k) (sym z ∙ e)
 
   module _ (x : ℕ) (e : k ≡ x) where
     pub link-none : k ≡ 0 → Free ≡ byLink T C n x

@@ -1,5 +1,5 @@
 -- Whether the order of two entries of a table mattered. The table may hold anything.
-use mathlib.Core.Bool.{Bool, true, _&&_, _||_, cond}
+use mathlib.Core.Bool.{Bool, true, _&&_, cond}
 use mathlib.Core.List.{List, [], _∷_}
 use Prim.Native.Nat.{ℕ, zero, suc, _+_, min, max}
 use lib.Dec.{eqb, leb, ltb}
@@ -9,9 +9,8 @@ use Rattle.laws.specs.Bytes.{Bytes}
 use Rattle.precedence.specs.declared.Order.{Order}
 use Rattle.precedence.specs.declared.Order.the-variants.{Free, Held, Refused}
 use Rattle.scene.specs.Record.{recordIn}
-use Rattle.table.specs.Number.{numberIn}
 use Rattle.table.specs.Question.{numberRefusal}
-use Rattle.ties.specs.Ties.{boundRows, classesTo, givesIn, refersIn}
+use Rattle.ties.specs.Ties.{boundRows, classesTo, givesTo}
 
 -- a record's links lead to records above it, and its name stands in the text
 unfoldable pub rowFits : Bytes → (table : List ℕ) → (n : ℕ) → Bool
@@ -33,7 +32,7 @@ refusalOf text T count n m =
 
 -- "the name that binds": n's own, where n gives it and k gives or refers to it; else k's, which n refers to. The number that has it
 unfoldable pub binder : (table classes : List ℕ) → (n k : ℕ) → ℕ
-binder T C n k = cond (givesIn T n && (givesIn T k && eqb (numberIn C n) (numberIn C k) || refersIn T C k (numberIn C n))) n k
+binder T C n k = cond (givesTo T C n k) n k
 
 -- by the first link from the upper entry on, 0 for none
 abbrev pub byLink : (table classes : List ℕ) → (n k : ℕ) → Order

@@ -127,10 +127,7 @@ fn first_link(records: &[u32], classes: &[usize], lengths: &[usize], first: usiz
 fn binder(records: &[u32], classes: &[usize], n: usize, k: usize) -> usize
     ensures { λ r. ⌜ r ≡ binder (now (records .entry)) (now (classes .entry)) n k ⌝ }
 {
-    let class = table::number_at(classes, n);
-    let given = ties::gives(records, k) & (class == table::number_at(classes, k));
-    let named = given | ties::refers(records, classes, k, class);
-    if ties::gives(records, n) & named {
+    if ties::gives_to(records, classes, n, k) {
         return n;
     }
     k

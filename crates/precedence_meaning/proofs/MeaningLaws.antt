@@ -11,14 +11,13 @@ use borrow.Author.Tests.{le-leb, lt-ltb, ne-eqb}
 use lib.Dec.{leb, ltb}
 use lib.ListN.{length, length-append}
 use Rattle.holding.proofs.SameLaws.{first-link-same, first-link-tied}
-use Rattle.holding.specs.Chain.{boundBy, boundIn}
 use Rattle.holding.specs.Shortest.{firstLink}
 use Rattle.laws.proofs.BoolLaws.{and-left, and-right}
 use Rattle.laws.specs.Bytes.{Bytes, same}
 use Rattle.precedence.specs.Answer.{allFit, between, binder, byLink, orderOf, refusalOf, rowFits}
 use Rattle.precedence.specs.declared.Order.the-variants.{Free, Held}
 use Rattle.precedence_meaning.specs.Meaning.{Binds, GivesTo, Means, MeaningLaw, TurnedLaw}
-use Rattle.rearrangement.specs.Held.{bound}
+use Rattle.rearrangement.specs.Held.{both, bound, boundIn}
 use Rattle.scene.proofs.PlaceLaws.{AllRead}
 use Rattle.scene.proofs.PropertyLaws.{modifier-latest, modifier-void, target-latest, target-none}
 use Rattle.scene.proofs.TellsLaws.{At, at, nth-at, read-read, read-tail, split-statements}
@@ -123,7 +122,7 @@ module _ (r : Settings) (text : Bytes) (es : List Entry) (k : ℕ) (reads : read
   module _ (n j : ℕ) (s t : Statement) (p : numbered (statements es) n ≡ some s) (q : numbered (statements es) j ≡ some t) where
     bound-both : boundIn (statements es) n j ≡ bound s t
     unfolding boundIn
-    bound-both = λ i. boundBy (p i) (q i)
+    bound-both = λ i. both bound (p i) (q i)
 
     binder-binds : bound s t ≡ true → Binds (statements es) n j (binder T C n j)
     unfolding bound binder
@@ -190,7 +189,4 @@ turned r text es k T reads few is n m p l q h differ =
     (either-way r text es k (resolved r text es reads .reads) few n m p l q h differ)
 
 pub meaning : MeaningLaw
-meaning r text es k T reads few is n m p q l = (
-  subst (λ (z : List ℕ). Means text z es n m) (sym is) (means r text es k (resolved r text es reads .reads) few n m p q l),
-  turned r text es k T reads few is n m p (omega arith) (omega arith) l (λ e. omega arith),
-)
+meaning r text es k T reads few is n m p q l = subst (λ (z : List ℕ). Means text z es n m) (sym is) (means r text es k (resolved r text es reads .reads) few n m p q l)

@@ -6,11 +6,11 @@ use mathlib.Core.Option.{some}
 use mathlib.Core.Path.{_≡_}
 use Prim.Native.Nat.{ℕ, _≤_, _<_}
 use lib.ListN.{length}
-use Rattle.holding.specs.Chain.{boundIn}
 use Rattle.holding.specs.Shortest.{firstLink}
 use Rattle.laws.specs.Bytes.{Bytes}
 use Rattle.precedence.specs.Answer.{orderOf}
 use Rattle.precedence.specs.declared.Order.the-variants.{Free, Held}
+use Rattle.rearrangement.specs.Held.{boundIn}
 use Rattle.scene.specs.Block.{given, referred, stands}
 use Rattle.scene.specs.Properties.{Named, numbered}
 use Rattle.scene.specs.Reading.{Entry, accepted, statements}
@@ -46,5 +46,4 @@ TurnedLaw = (r : Settings) (text : Bytes) (es : List Entry) (k : ℕ) (T : List 
 -- for every accepted text within document 01's room, its table in any room, and two of its entries, n above m
 abbrev pub MeaningLaw : Type 0
 MeaningLaw = (r : Settings) (text : Bytes) (es : List Entry) (k : ℕ) (T : List ℕ) → read r text ≡ accepted es → r .records ≤ 1024 → T ≡ recordImage text k (accepted es)
-    → (n m : ℕ) → 0 < n → n < m → m ≤ length es
-    → Means text T es n m × (orderOf text T (length es) m n ≡ orderOf text T (length es) n m)
+    → (n m : ℕ) → 0 < n → n < m → m ≤ length es → Means text T es n m

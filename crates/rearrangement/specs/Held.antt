@@ -17,11 +17,16 @@ bound s t = share (given (s ∷ [])) (given (t ∷ []) ++ referred (t ∷ [])) |
 unfoldable pub held : Statement → Statement → Bool
 held s t = bound s t || same (s .name) (t .name)
 
--- statements number i and j
-abbrev pub heldBy : Option Statement → Option Statement → Bool
-heldBy (some s) (some t) = held s t
-heldBy (some s) none = false
-heldBy none t = false
+-- ---- by their numbers
+
+-- two statements that are there
+abbrev pub both : (Statement → Statement → Bool) → Option Statement → Option Statement → Bool
+both test (some s) (some t) = test s t
+both test (some s) none = false
+both test none t = false
+
+unfoldable pub boundIn : List Statement → ℕ → ℕ → Bool
+boundIn d i j = both bound (numbered d i) (numbered d j)
 
 unfoldable pub heldIn : List Statement → ℕ → ℕ → Bool
-heldIn d i j = heldBy (numbered d i) (numbered d j)
+heldIn d i j = both held (numbered d i) (numbered d j)

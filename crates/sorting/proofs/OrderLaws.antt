@@ -13,7 +13,7 @@ use Rattle.rearrangement.proofs.BlockLaws.{ownPieces, restPiece, restPieces}
 use Rattle.rearrangement.proofs.HeldLaws.{unheld-independent, unheld-names}
 use Rattle.rearrangement.specs.Blocks.{behindBlocks}
 use Rattle.rearrangement.specs.Cut.{Piece}
-use Rattle.rearrangement.specs.Held.{held, heldBy, heldIn}
+use Rattle.rearrangement.specs.Held.{both, held, heldIn}
 use Rattle.rearrangement.specs.Order.{Apart, OrderedBy, Passes}
 use Rattle.scene.specs.Reading.{Entry, statements}
 use Rattle.scene.specs.Statement.{Statement}
@@ -42,7 +42,7 @@ module _ (text : Bytes) (es : List Entry) where
   related k c h j e =
       let o = own-of text es k h in
       let q = own-of text es c j in
-      let f : held (o .statement) (q .statement) ≡ false = sym (λ i. heldBy (o .there i) (q .there i)) ∙ e in
+      let f : held (o .statement) (q .statement) ≡ false = sym (λ i. both held (o .there i) (q .there i)) ∙ e in
       subst₂ Related (sym (o .piece)) (sym (q .piece)) (unheld-independent (o .statement) (q .statement) f, unlike (o .statement) (q .statement) (unheld-names (o .statement) (q .statement) f))
 
   -- ---- a block and those behind it

@@ -1,10 +1,8 @@
 -- Which two statements keep their order, as a few tests.
 use mathlib.Core.Bool.{Bool, true, false, cond, _&&_, _||_, or-false}
 use mathlib.Core.List.{List, [], _∷_, _++_, append-nil}
-use mathlib.Core.Path.{_≡_, refl, ap, sym, _∙_}
-use Rattle.keys.proofs.OrderLaws.{same-sym}
+use mathlib.Core.Path.{_≡_, refl, ap, _∙_}
 use Rattle.laws.specs.Bytes.{Bytes, same}
-use Rattle.rearrangement.specs.Held.{bound}
 use Rattle.scene.specs.Block.{given, referred, share, stands, targets}
 use Rattle.scene.specs.Links.{gives}
 use Rattle.scene.specs.Statement.{Statement, void}
@@ -47,17 +45,3 @@ stands-given w s = go (gives s)
 -- one gives a name that the other gives or refers to
 pub given-shared : (s t : Statement) → share (given (s ∷ [])) (given (t ∷ []) ++ referred (t ∷ [])) ≡ (gives s && (gives t && same (s .name) (t .name) || stands (s .name) (referred (t ∷ []))))
 given-shared s t = share-given s (given (t ∷ []) ++ referred (t ∷ [])) ∙ ap (λ (b : Bool). gives s && b) (stands-append (s .name) (given (t ∷ [])) (referred (t ∷ [])) ∙ ap (λ (b : Bool). b || stands (s .name) (referred (t ∷ []))) (stands-given (s .name) t))
-
--- a name that both give is asked for once
-once : (g h n p q : Bool) → (g && (h && n || p) || h && (g && n || q)) ≡ (g && (h && n || p) || h && q)
-once true true true p q = refl
-once true true false p q = refl
-once true false n p q = refl
-once false h n p q = refl
-
-pub bound-tests : (s t : Statement) → bound s t ≡ (share (given (s ∷ [])) (given (t ∷ []) ++ referred (t ∷ [])) || gives t && stands (t .name) (referred (s ∷ [])))
-unfolding bound
-bound-tests s t =
-    (λ i. given-shared s t i || (given-shared t s ∙ ap (λ (b : Bool). gives t && (gives s && b || stands (t .name) (referred (s ∷ [])))) (same-sym (t .name) (s .name))) i)
-    ∙ once (gives s) (gives t) (same (s .name) (t .name)) (stands (s .name) (referred (t ∷ []))) (stands (t .name) (referred (s ∷ [])))
-    ∙ sym (λ i. given-shared s t i || gives t && stands (t .name) (referred (s ∷ [])))

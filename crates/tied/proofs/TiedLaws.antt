@@ -9,11 +9,10 @@ use native.Mathlib.Omega.{arith}
 use borrow.Author.Tests.{eq-eqb, le-leb, lt-leb, ne-eqb}
 use lib.Dec.{eqb}
 use lib.ListN.{length, length-append}
-use Rattle.holding.specs.Chain.{boundBy, boundIn}
 use Rattle.keys.proofs.OrderLaws.{same-sym}
 use Rattle.laws.proofs.NatLaws.{le-or-lt}
 use Rattle.laws.specs.Bytes.{Bytes, same}
-use Rattle.rearrangement.specs.Held.{bound, held, heldBy, heldIn}
+use Rattle.rearrangement.specs.Held.{both, bound, boundIn, held, heldIn}
 use Rattle.scene.proofs.FlatLaws.{record-in}
 use Rattle.scene.proofs.GivesLaws.{gives-by-type}
 use Rattle.scene.proofs.ImageLaws.{name-is}
@@ -29,9 +28,9 @@ use Rattle.scene.specs.Statement.{Body, Statement, alias, primitive, void}
 use Rattle.scene.specs.Types.{isModifier, isSurface}
 use Rattle.scene.specs.declared.Settings.{Settings}
 use Rattle.table.specs.Number.{numberIn}
-use Rattle.ties.specs.Ties.{boundRows, classOf, classesTo, givesIn, heldRows, refersIn}
+use Rattle.ties.specs.Ties.{boundRows, classOf, classesTo, givesIn, givesTo, heldRows, refersIn}
 use Rattle.tied.proofs.ClassLaws.{class-at, class-same, class-some}
-use Rattle.tied.proofs.PairLaws.{bound-tests, given-shared, modifiers, stands-referred}
+use Rattle.tied.proofs.PairLaws.{given-shared, modifiers, stands-referred}
 
 -- ---- numbers and types
 
@@ -142,14 +141,15 @@ module _ (r : Settings) (text : Bytes) (es : List Entry) (k : ℕ) (reads : read
           ∙ (λ i. by-modifier i || by-target i)
           ∙ sym (stands-referred (s .name) t)
 
-  module _ (i j : ℕ) (s t : Statement) (p : Says i s) (q : Says j t) where
-    -- the first gives a name that the second gives or refers to
-    pub first-binds : (givesIn table i && (givesIn table j && eqb (numberIn classes i) (numberIn classes j) || refersIn table classes j (numberIn classes i))) ≡ share (given (s ∷ [])) (given (t ∷ []) ++ referred (t ∷ []))
-    first-binds = (λ z. gives-of i s p z && (gives-of j t q z && same-class i s p j t q z || refers i s p j t q z)) ∙ sym (given-shared s t)
+  -- the first gives a name that the second gives or refers to
+  pub first-binds : (i j : ℕ) (s t : Statement) → Says i s → Says j t → givesTo table classes i j ≡ share (given (s ∷ [])) (given (t ∷ []) ++ referred (t ∷ []))
+  unfolding givesTo
+  first-binds i j s t p q = (λ z. gives-of i s p z && (gives-of j t q z && same-class i s p j t q z || refers i s p j t q z)) ∙ sym (given-shared s t)
 
+  module _ (i j : ℕ) (s t : Statement) (p : Says i s) (q : Says j t) where
     bound-pair : boundRows table classes i j ≡ bound s t
-    unfolding boundRows
-    bound-pair = (λ z. first-binds z || gives-of j t q z && refers j t q i s p z) ∙ sym (bound-tests s t)
+    unfolding boundRows bound
+    bound-pair = λ z. first-binds i j s t p q z || first-binds j i t s q p z
 
     held-pair : heldRows table classes i j ≡ held s t
     unfolding heldRows held
@@ -162,11 +162,11 @@ unfolding boundIn
 tied-bound r text es k reads i j p q l =
     let a = statement-at es i p (omega arith) in
     let b = statement-at es j (omega arith) l in
-    bound-pair r text es k reads i j (a .0) (b .0) (a .1) (b .1) ∙ sym (λ z. boundBy (a .1 z) (b .1 z))
+    bound-pair r text es k reads i j (a .0) (b .0) (a .1) (b .1) ∙ sym (λ z. both bound (a .1 z) (b .1 z))
 
 pub tied : (r : Settings) (text : Bytes) (es : List Entry) (k : ℕ) → readStatements r text ≡ accepted es → (i j : ℕ) → 0 < i → i < j → j ≤ length es → let T = recordImage text k (accepted es) in heldRows T (classesTo text T (length es)) i j ≡ heldIn (statements es) i j
 unfolding heldIn
 tied r text es k reads i j p q l =
     let a = statement-at es i p (omega arith) in
     let b = statement-at es j (omega arith) l in
-    held-pair r text es k reads i j (a .0) (b .0) (a .1) (b .1) ∙ sym (λ z. heldBy (a .1 z) (b .1 z))
+    held-pair r text es k reads i j (a .0) (b .0) (a .1) (b .1) ∙ sym (λ z. both held (a .1 z) (b .1 z))

@@ -28,11 +28,13 @@ givesIn T n = isModifier (recordIn T n .type)
 unfoldable pub refersIn : (table classes : List ℕ) → (n class : ℕ) → Bool
 refersIn T C n k = eqb (numberIn C (recordIn T n .modifier)) k || eqb (numberIn C (recordIn T n .target)) k
 
+-- i gives a name that j gives or refers to
+unfoldable pub givesTo : (table classes : List ℕ) → (i j : ℕ) → Bool
+givesTo T C i j = givesIn T i && (givesIn T j && eqb (numberIn C i) (numberIn C j) || refersIn T C j (numberIn C i))
+
 -- one gives a name that the other gives or refers to
 unfoldable pub boundRows : (table classes : List ℕ) → (i j : ℕ) → Bool
-boundRows T C i j =
-    givesIn T i && (givesIn T j && eqb (numberIn C i) (numberIn C j) || refersIn T C j (numberIn C i))
-    || givesIn T j && refersIn T C i (numberIn C j)
+boundRows T C i j = givesTo T C i j || givesTo T C j i
 
 -- or they have one name
 unfoldable pub heldRows : (table classes : List ℕ) → (i j : ℕ) → Bool

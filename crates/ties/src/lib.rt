@@ -1,7 +1,7 @@
 // Which records of a table are bound by names, and which keep their order when a scene is sorted. Tables may hold anything.
 ghost use mathlib.Core.Path.{_≡_};
 ghost use lib.ListN.{length};
-ghost use Rattle.ties.specs.Ties.{boundRows, classOf, classesTo, givesIn, heldRows, refersIn};
+ghost use Rattle.ties.specs.Ties.{boundRows, classOf, classesTo, givesIn, givesTo, heldRows, refersIn};
 
 // The number of the first record that has the name of record n: it stands for that name.
 fn class_of(text: &[u8], records: &[u32], n: usize) -> usize
@@ -32,14 +32,14 @@ pub fn classes(text: &[u8], records: &[u32], classes: &mut [usize])
 }
 
 // Whether record n gives its name.
-pub fn gives(records: &[u32], n: usize) -> bool
+fn gives(records: &[u32], n: usize) -> bool
     ensures { λ r. ⌜ r ≡ givesIn (now (records .entry)) n ⌝ }
 {
     kinds::is_modifier(table::field(records, n, table::KIND))
 }
 
 // Whether record n refers to the names of a class.
-pub fn refers(records: &[u32], classes: &[usize], n: usize, class: usize) -> bool
+fn refers(records: &[u32], classes: &[usize], n: usize, class: usize) -> bool
     ensures { λ r. ⌜ r ≡ refersIn (now (records .entry)) (now (classes .entry)) n class ⌝ }
 {
     let modifier = table::field(records, n, table::MODIFIER) as usize;
@@ -47,16 +47,24 @@ pub fn refers(records: &[u32], classes: &[usize], n: usize, class: usize) -> boo
     (table::number_at(classes, modifier) == class) | (table::number_at(classes, target) == class)
 }
 
+// Whether record i gives a name that record j gives or refers to.
+pub fn gives_to(records: &[u32], classes: &[usize], i: usize, j: usize) -> bool
+    ensures { λ r. ⌜ r ≡ givesTo (now (records .entry)) (now (classes .entry)) i j ⌝ }
+{
+    if !gives(records, i) {
+        return false;
+    }
+    let class = table::number_at(classes, i);
+    let given = gives(records, j) & (class == table::number_at(classes, j));
+    given | refers(records, classes, j, class)
+}
+
 // Whether of records i and j one gives a name that the other gives or refers to.
 pub fn bound(records: &[u32], classes: &[usize], i: usize, j: usize) -> bool
     ensures { λ r. ⌜ r ≡ boundRows (now (records .entry)) (now (classes .entry)) i j ⌝ }
 {
-    let first = table::number_at(classes, i);
-    let second = table::number_at(classes, j);
-    let first_gives = gives(records, i);
-    let second_gives = gives(records, j);
-    let to_second = second_gives & (first == second) | refers(records, classes, j, first);
-    first_gives & to_second | second_gives & refers(records, classes, i, second)
+    let first = gives_to(records, classes, i, j);
+    first | gives_to(records, classes, j, i)
 }
 
 // Whether records i and j keep their order when a scene is sorted.

@@ -1,0 +1,3 @@
+-- To be believed.
+pub mod Written
+pub mod Stepped

@@ -4,8 +4,8 @@ use mathlib.Core.Path.{_≡_, ap, _∙_, subst}
 use Prim.Native.Nat.{ℕ}
 use lib.Ieee.{Float}
 use Rattle.host_joining.specs.Host.{HostJoins}
-use Rattle.joiner.specs.Answer.{Joins, reasonOf, valuesOf}
-use Rattle.joiner.specs.declared.Answer.{Answer}
+use Rattle.join_answer.specs.Answer.{Joins, reasonOf, valuesOf}
+use Rattle.join_answer.specs.declared.Answer.{Answer}
 use Rattle.joining.specs.Outcome.{Outcome}
 use Rattle.laws.specs.Bytes.{Bytes}
 

@@ -5,7 +5,7 @@ use Prim.Native.Nat.{ℕ}
 use lib.Ieee.{Float}
 use lib.ListN.{length}
 use Rattle.host_reading.specs.Host.{modeOf}
-use Rattle.joiner.specs.Answer.{Joins, answered, reasonOf, valuesOf}
+use Rattle.join_answer.specs.Answer.{Joins, answered, reasonOf, valuesOf}
 use Rattle.joining.specs.Outcome.{Outcome, checked, proposed}
 use Rattle.laws.specs.Bytes.{Bytes}
 use Rattle.scene.specs.Record.{settingsFor}

@@ -1,9 +1,9 @@
 // Two hands' edits joined, as host programs are told of it: a number for the kind of answer, and its values in a small array.
-use joiner::Answer;
+use join_answer::Answer;
 use joining::Scene;
 ghost use mathlib.Core.Path.{_≡_};
 ghost use Rattle.host_joining.specs.Host.{HostChecks, HostProposes};
-ghost use Rattle.joiner.specs.Answer.{reasonOf, sceneNumber, valuesOf};
+ghost use Rattle.join_answer.specs.Answer.{reasonOf, sceneNumber, valuesOf};
 
 fn scene_number(scene: Scene) -> usize
     ensures { λ r. ⌜ r ≡ sceneNumber scene ⌝ }

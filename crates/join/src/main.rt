@@ -1,7 +1,7 @@
 // Joins two hands' edits of a base, the files that three arguments name; or checks a fourth as a join of these. A refusal is said on
 // standard error too, as what is printed may be taken for a scene.
 use input::Loaded;
-use joiner::Answer;
+use join_answer::Answer;
 use joining::Choice;
 use joining::Scene;
 use libc::STDERR_FILENO;

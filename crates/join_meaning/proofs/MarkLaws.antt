@@ -100,5 +100,5 @@ module _ (base left right : List Statement) (leftRight leftBase rightLeft rightB
     }
 
 pub marks-meant : (base left right : List Statement) (leftRight leftBase rightLeft rightBase : List ℕ) → MarkLaw base left right leftRight leftBase rightLeft rightBase
-marks-meant base left right leftRight leftBase rightLeft rightBase onceBase onceLeft onceRight leftInRight leftInBase rightInLeft rightInBase =
+marks-meant base left right leftRight leftBase rightLeft rightBase onceLeft onceRight leftInRight leftInBase rightInLeft rightInBase =
     marked base left right leftRight leftBase rightLeft rightBase (record { onceLeft = onceLeft; onceRight = onceRight; leftInRight = leftInRight; leftInBase = leftInBase; rightInLeft = rightInLeft; rightInBase = rightInBase })

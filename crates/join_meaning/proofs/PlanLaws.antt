@@ -122,7 +122,7 @@ module _ (r : Settings) (few : r .records ≤ 1024) (base left right : Bytes) (b
   counts : rows.rowCount base B x left L y right R z ≡ count
   counts = omega (arith, rows-count r left ls readsLeft, rows-count r right rs readsRight, length-append (statements ls) (statements rs))
 
-  module _ (onceBase : namesOnce (statements bs) ≡ true) (onceLeft : namesOnce (statements ls) ≡ true) (onceRight : namesOnce (statements rs) ≡ true) where
+  module _ (onceLeft : namesOnce (statements ls) ≡ true) (onceRight : namesOnce (statements rs) ≡ true) where
     leftInRight : MatchedIn (statements ls) (statements rs) leftRight
     leftInRight = rows-matched r few left ls readsLeft k right rs readsRight m
 
@@ -131,7 +131,7 @@ module _ (r : Settings) (few : r .records ≤ 1024) (base left right : Bytes) (b
 
     marked : Marked (statements bs) (statements ls) (statements rs) leftRight leftBase rightLeft rightBase
     marked =
-        marks-meant (statements bs) (statements ls) (statements rs) leftRight leftBase rightLeft rightBase onceBase onceLeft onceRight
+        marks-meant (statements bs) (statements ls) (statements rs) leftRight leftBase rightLeft rightBase onceLeft onceRight
         leftInRight (rows-matched r few left ls readsLeft k base bs readsBase j) rightInLeft (rows-matched r few right rs readsRight m base bs readsBase j)
 
     module _ (free : clashTo mark count ≡ false) where
@@ -170,17 +170,17 @@ module _ (r : Settings) (few : r .records ≤ 1024) (base left right : Bytes) (b
 
   plans : planIn both (rowPlan base B x left L y right R z) ≡ planOf (statements bs) (statements ls) (statements rs)
   unfolding rowPlan planOf
-  plans = ap (λ (b : Bool). planIn both (cond b inner (stopped 29))) once-alike ∙ go (namesOnce (statements bs)) refl (namesOnce (statements ls)) refl (namesOnce (statements rs)) refl
+  plans = ap (λ (b : Bool). planIn both (cond b inner (stopped 29))) once-alike ∙ go (namesOnce (statements bs)) (namesOnce (statements ls)) refl (namesOnce (statements rs)) refl
     where
       inner : RowPlan
       inner = cond (clashTo mark (rows.rowCount base B x left L y right R z)) (stopped 30) (rows.rowOrder base B x left L y right R z)
 
-      go : (a : Bool) → namesOnce (statements bs) ≡ a → (b : Bool) → namesOnce (statements ls) ≡ b → (c : Bool) → namesOnce (statements rs) ≡ c
+      go : (a b : Bool) → namesOnce (statements ls) ≡ b → (c : Bool) → namesOnce (statements rs) ≡ c
           → planIn both (cond (a && b && c) inner (stopped 29)) ≡ cond (a && b && c) (pickPlan (picked (statements bs) (statements ls) (statements rs))) (refused None 29 0)
-      go true p true q true t = counted-alike p q t
-      go true p true q false t = refl
-      go true p false q c t = refl
-      go false p b q c t = refl
+      go true true q true t = counted-alike q t
+      go true true q false t = refl
+      go true false q c t = refl
+      go false b q c t = refl
 
 pub plan-meant : PlanLaw
 plan-meant = plans

@@ -34,6 +34,6 @@ module _ (base left right : List Statement) (leftRight leftBase rightLeft rightB
 
   abbrev pub MarkLaw : Type 0
   MarkLaw =
-      namesOnce base ≡ true → namesOnce left ≡ true → namesOnce right ≡ true
+      namesOnce left ≡ true → namesOnce right ≡ true
       → MatchedIn left right leftRight → MatchedIn left base leftBase → MatchedIn right left rightLeft → MatchedIn right base rightBase
       → Marked

@@ -1,22 +1,19 @@
--- An order of both hands' records beside texts: matches one by one, what reading both hands again leaves, and what is put or held of it.
-use mathlib.Core.Bool.{Bool, true, false, not, _&&_}
+-- An order of both hands' records beside texts: what reading both hands again leaves, and what is put or held of it.
+use mathlib.Core.Bool.{Bool, false, _&&_}
 use mathlib.Core.List.{List, _++_}
 use mathlib.Core.Path.{_≡_, refl, ap, sym, _∙_, subst}
-use Prim.Native.Nat.{ℕ, suc, _+_, _-_, _*_, _/_, _≤_, _<_, min}
+use Prim.Native.Nat.{ℕ, _+_, _*_, _/_, _≤_, min}
 use native.Mathlib.Omega.{arith}
-use borrow.Author.Tests.{eq-eqb, ne-eqb, not-false, not-true}
 use lib.Dec.{eqb}
 use lib.Ieee.{Float}
-use lib.ListN.{drop, drop-of-length-le, getD, length, length-take, take}
-use lib.Seq.{drop-cons, length-take-le, take-at}
-use Rattle.arranging.proofs.BothLaws.{either-left, either-right}
-use Rattle.arranging.specs.Both.{either}
+use lib.ListN.{length, length-take, take}
+use lib.Seq.{length-take-le, take-at}
 use Rattle.join_meaning.proofs.MatchedLaws.{rows-count, rows-matched}
 use Rattle.join_meaning.proofs.UsedLaws.{same-room, used-rows}
 use Rattle.join_meaning.proofs.WrittenLaws.{equal-meant, text-meant}
 use Rattle.join_meaning.specs.Kept.{inTurn}
 use Rattle.join_meaning.specs.Rows.{usedRows}
-use Rattle.join_meaning.specs.Written.{Numbers, allEqual}
+use Rattle.join_meaning.specs.Written.{Numbers}
 use Rattle.joined_hands.specs.Hands.{HoldsHands, PutsHands, RoomFor, holdsRows}
 use Rattle.joined_text.specs.JoinedText.{orderText}
 use Rattle.joining.specs.Pick.{holds}
@@ -25,13 +22,10 @@ use Rattle.lines.proofs.PutsLaws.{puts-length}
 use Rattle.lines.specs.Puts.{Puts}
 use Rattle.lines.specs.declared.Cursor.{Cursor}
 use Rattle.match_meaning.proofs.NumberLaws.{once-meaning}
-use Rattle.matching.specs.Matching.{matchOf}
-use Rattle.name_index.specs.Names.{namesOnceIn}
 use Rattle.pair.specs.Both.{ReadsBoth, beside, bothAnswer}
 use Rattle.pair.specs.declared.Both.{Both}
 use Rattle.pair.specs.declared.Both.the-variants.{Read, Refused}
 use Rattle.pair.specs.declared.Side.{Side}
-use Rattle.picking.specs.Picking.{isEqual}
 use Rattle.reader.specs.Answer.{readInto}
 use Rattle.scene.specs.Reading.{Entry, accepted, statements}
 use Rattle.scene.specs.Record.{realImage, recordImage, settingsFor, width}
@@ -41,42 +35,7 @@ use Rattle.sides.proofs.MixedLaws.{resolved}
 use Rattle.sides.specs.Read.{read}
 use Rattle.tabled.proofs.TabledLaws.{tabled-length}
 use Rattle.tabled.specs.Tabled.{tabled}
-use Rattle.table.specs.Number.{numberIn}
-
--- ---- each number of an order
-
-module _ (R L : List ℕ) (n : ℕ) where
-  pub match-right : n ≤ length R → numberIn R n ≡ either (length R) (numberIn R) (numberIn L) n
-  match-right h = sym (either-right (length R) (numberIn R) (numberIn L) n h)
-
-  pub match-left : length R < n → numberIn L (n - length R) ≡ either (length R) (numberIn R) (numberIn L) n
-  match-left h = sym (either-left (length R) (numberIn R) (numberIn L) n h)
-
-module _ (R L order : List ℕ) (i : ℕ) where
-  abbrev here : Bool
-  here = isEqual (either (length R) (numberIn R) (numberIn L) (getD order i 0))
-
-  abbrev from : ℕ → Bool
-  from k = allEqual R L (drop k order)
-
-  one-more : i < length order → from i ≡ (here && from (i + 1))
-  unfolding allEqual
-  one-more h = ap (allEqual R L) (drop-cons order i 0 h) ∙ (let m : suc i ≡ i + 1 = omega arith in ap (λ (k : ℕ). here && from k) m)
-
-  module _ (so-far : allEqual R L order ≡ from i) where
-    pub all-tested : length order ≤ i → true ≡ allEqual R L order
-    unfolding allEqual
-    all-tested h = sym (so-far ∙ ap (allEqual R L) (drop-of-length-le order {i = i} h))
-
-    module _ (h : i < length order) (n : ℕ) (e : n ≡ either (length R) (numberIn R) (numberIn L) (getD order i 0)) (t : Bool) (f : t ≡ isEqual n) where
-      tested : allEqual R L order ≡ (t && from (i + 1))
-      tested = so-far ∙ one-more h ∙ ap (λ (b : Bool). b && from (i + 1)) (sym (f ∙ ap isEqual e))
-
-      pub one-unequal : not t ≡ true → false ≡ allEqual R L order
-      one-unequal u = sym (tested ∙ ap (λ (b : Bool). b && from (i + 1)) (not-true t u))
-
-      pub one-equal : not t ≡ false → allEqual R L order ≡ from (i + 1)
-      one-equal u = tested ∙ ap (λ (b : Bool). b && from (i + 1)) (not-false t u)
+use Rattle.typed_matches.specs.Held.{allHeld}
 
 -- ---- a typed scene's records
 
@@ -87,33 +46,6 @@ module _ (f : ℕ → ℕ) (n : ℕ) (old xs : List ℕ) (h : n ≤ length old) 
 
   pub matches-front : (behind : List ℕ) → take n (xs ++ behind) ≡ tabled f n
   matches-front behind = take-at xs behind n matches-many ∙ e ∙ ap (tabled f) (length-take-le n old h)
-
-module _ (left : Bytes) (L : List ℕ) (y : List Float) (right : Bytes) (R : List ℕ) (z : List Float) (typed : Bytes) (T : List ℕ) (w : List Float) (order : List ℕ) where
-  abbrev rightMatches : List ℕ
-  rightMatches = tabled (matchOf right R z typed T w) (length R / width)
-
-  abbrev leftMatches : List ℕ
-  leftMatches = tabled (matchOf left L y typed T w) (length L / width)
-
-  abbrev rest : Bool
-  rest = allEqual rightMatches leftMatches order
-
-  abbrev many : Bool
-  many = eqb (length order) (length T / width)
-
-  module _ (t : Bool) (e : t ≡ namesOnceIn typed T) where
-    once-said : holdsRows left L y right R z typed T w order ≡ (t && many && rest)
-    unfolding holdsRows
-    once-said = ap (λ (b : Bool). b && many && rest) (sym e)
-
-    pub named-twice : not t ≡ true → false ≡ holdsRows left L y right R z typed T w order
-    named-twice u = sym (once-said ∙ ap (λ (b : Bool). b && many && rest) (not-true t u))
-
-    pub not-as-many : not t ≡ false → (length order ≡ length T / width → ⊥) → false ≡ holdsRows left L y right R z typed T w order
-    not-as-many u v = sym (once-said ∙ (λ i. not-false t u i && ne-eqb (length order) (length T / width) v i && rest))
-
-    pub all-alike : not t ≡ false → length order ≡ length T / width → (b : Bool) → b ≡ rest → b ≡ holdsRows left L y right R z typed T w order
-    all-alike u v b f = f ∙ sym (once-said ∙ (λ i. not-false t u i && eq-eqb (length order) (length T / width) v i && rest))
 
 -- ---- both hands, read again
 
@@ -194,7 +126,7 @@ module _ (mode : Mode) (numbers reals : ℕ) (left right : Bytes) (r : Both) (L 
 
 module _ (s : Settings) (few : s .records ≤ 1024) (left right typed : Bytes) (ls rs ts : List Entry) (p : read s left ≡ accepted ls) (q : read s right ≡ accepted rs) (o : read s typed ≡ accepted ts) (j k m : ℕ) where
   rows-hold : (order : List ℕ) → Numbers (length (statements ls ++ statements rs)) order → holdsRows left (usedRows left ls) (realImage j (accepted ls)) right (usedRows right rs) (realImage k (accepted rs)) typed (usedRows typed ts) (realImage m (accepted ts)) order ≡ holds (inTurn (statements ls ++ statements rs) order) (statements ts)
-  unfolding holdsRows holds
+  unfolding holdsRows allHeld holds
   rows-hold order h =
       let p′ = resolved s left ls p .reads in
       let q′ = resolved s right rs q .reads in

@@ -1,11 +1,7 @@
 // An order of both hands' records beside texts: its own tidy text, and whether a typed scene holds it. Both hands' texts are read
 // again, and where one of them is refused nothing is said. Both are numbered together, right's records first, then left's.
 ghost use mathlib.Core.Path.{_≡_};
-ghost use lib.ListN.{length};
-ghost use Rattle.arranging.specs.Both.{either};
-ghost use Rattle.join_meaning.specs.Written.{allEqual};
 ghost use Rattle.joined_hands.specs.Hands.{HoldsHands, PutsHands, RoomFor, holdsRows};
-ghost use Rattle.table.specs.Number.{numberIn};
 use lines::Cursor;
 use pair::Both;
 use scene::Mode;
@@ -13,7 +9,6 @@ use table::MOST_NUMBERS;
 use table::MOST_REALS;
 use table::MOST_RECORDS;
 use table::WIDTH;
-use table::number_at;
 
 // Puts the text of an order from the output's front on. Both hands are read into tables of so many numbers and reals.
 pub fn put_hands(
@@ -54,32 +49,7 @@ pub fn put_hands(
     }
 }
 
-// The match of number n.
-fn match_at(right_matches: &[usize], left_matches: &[usize], n: usize) -> usize
-    ensures { λ r. ⌜ r ≡ either (length (now («right_matches» .entry))) (numberIn (now («right_matches» .entry))) (numberIn (now («left_matches» .entry))) n ⌝ }
-{
-    let split = right_matches.len();
-    if n <= split {
-        return number_at(right_matches, n);
-    }
-    number_at(left_matches, n - split)
-}
-
-// Whether each number of an order has an equal match.
-fn all_equal(right_matches: &[usize], left_matches: &[usize], order: &[usize]) -> bool
-    ensures { λ r. ⌜ r ≡ allEqual (now («right_matches» .entry)) (now («left_matches» .entry)) (now (order .entry)) ⌝ }
-{
-    let mut i = 0;
-    while i < order.len() {
-        if !picking::is_equal(match_at(right_matches, left_matches, order[i])) {
-            return false;
-        }
-        i += 1;
-    }
-    true
-}
-
-// Whether a typed scene holds an order of both hands' records and no more: each name once, as many, and each defined alike.
+// Whether a typed scene holds an order of both hands' records and no more.
 fn holds_rows(
     left: &[u8],
     left_records: &[u32],
@@ -95,12 +65,6 @@ fn holds_rows(
     requires { ⌜ RoomFor (now «left_records») (now «right_records») ⌝ }
     ensures { λ r. ⌜ r ≡ holdsRows (now (left .entry)) (now («left_records» .entry)) (now («left_reals» .entry)) (now (right .entry)) (now («right_records» .entry)) (now («right_reals» .entry)) (now (typed .entry)) (now («typed_records» .entry)) (now («typed_reals» .entry)) (now (order .entry)) ⌝ }
 {
-    if !name_index::names_once(typed, typed_records) {
-        return false;
-    }
-    if order.len() != typed_records.len() / WIDTH {
-        return false;
-    }
     let lefts = left_records.len() / WIDTH;
     let rights = right_records.len() / WIDTH;
     let mut left_matches = [0usize; MOST_RECORDS];
@@ -123,7 +87,13 @@ fn holds_rows(
         typed_reals,
         &mut right_matches[..rights],
     );
-    all_equal(&right_matches[..rights], &left_matches[..lefts], order)
+    typed_matches::all_held(
+        &right_matches[..rights],
+        &left_matches[..lefts],
+        order,
+        typed,
+        typed_records,
+    )
 }
 
 // Whether a typed scene holds an order and no more. Its tables are those that reading it leaves, with so many records; both hands are

@@ -13,10 +13,11 @@ use Rattle.buffer.specs.Put.{put}
 use Rattle.join_meaning.specs.Kept.{inTurn}
 use Rattle.join_meaning.specs.Written.{Numbers}
 use Rattle.joined_hands.specs.Hands.{HoldsHands, PutsHands}
-use Rattle.joiner.proofs.AnswerLaws.{full-is, joins-as, read-failed, read-refused, read-settled, reads-kept}
-use Rattle.joiner.specs.Answer.{Joins}
-use Rattle.joiner.specs.Code.{ChecksOrder, ProposesOrder, Settles, readProposed}
-use Rattle.joiner.specs.declared.Answer.{Answer}
+use Rattle.join_answer.proofs.AnswerLaws.{full-is, joins-as}
+use Rattle.joiner.proofs.ReadLaws.{read-failed, read-refused, read-settled, reads-kept}
+use Rattle.join_answer.specs.Answer.{Joins, Settles}
+use Rattle.joiner.specs.Code.{ChecksOrder, ProposesOrder, readProposed}
+use Rattle.join_answer.specs.declared.Answer.{Answer}
 use Rattle.joining.specs.Outcome.{checkPlan, checked, planned, proposePlan, proposed, readAs, refused}
 use Rattle.joining.specs.Pick.{holds}
 use Rattle.joining.specs.declared.Scene.{Scene}

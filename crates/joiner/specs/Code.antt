@@ -7,20 +7,15 @@ use lib.Ieee.{Float}
 use lib.ListN.{length}
 use Rattle.join_meaning.specs.Kept.{inTurn}
 use Rattle.join_meaning.specs.Written.{Numbers}
-use Rattle.joiner.specs.Answer.{Joins}
-use Rattle.joiner.specs.declared.Answer.{Answer}
-use Rattle.joining.specs.Outcome.{Outcome, checkPlan, fitted, planned, proposePlan, readAs}
+use Rattle.join_answer.specs.Answer.{Joins}
+use Rattle.join_answer.specs.declared.Answer.{Answer}
+use Rattle.joining.specs.Outcome.{Outcome, checkPlan, planned, proposePlan, readAs}
 use Rattle.laws.specs.Bytes.{Bytes}
 use Rattle.reader.specs.Answer.{readInto}
 use Rattle.scene.specs.Reading.{Entry, accepted, statements}
-use Rattle.scene.specs.Record.{realImage, realTable, recordImage, settingsFor}
+use Rattle.scene.specs.Record.{settingsFor}
 use Rattle.scene.specs.declared.Mode.{Mode}
 use Rattle.sides.specs.Read.{read}
-
--- an accepted text with the tables of its reading
-pub record Settles (text : Bytes) (records : List ℕ) (reals : List Float) (out : Bytes) (count doubles : ℕ) (r : Answer) (records′ : List ℕ) (reals′ : List Float) (out′ : Bytes) : Type 0 where
-  pub joins : (es : List Entry) → records ≡ recordImage text (length records) (accepted es) → reals ≡ realImage (length reals) (accepted es) → count ≡ length es → doubles ≡ length (realTable es)
-      → Joins (fitted (length out) text es) records reals out r records′ reals′ out′
 
 abbrev pub readProposed : Mode → Bytes → (records : List ℕ) (reals : List Float) (room : ℕ) → Outcome
 readProposed mode text records reals room = readAs (λ d. true) room text (readInto mode text records reals)

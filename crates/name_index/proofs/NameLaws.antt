@@ -46,9 +46,6 @@ module _ (text : Bytes) (T : List ℕ) where
   unfolding numberOfName
   found-number x n w v f e q h = ap (λ (g : Found). g .number) (h ∙ ap (sought text T x n) q) ∙ found-latest x (countIn T) e (omega arith) n w
 
-  pub number-found : (n : ℕ) (w : Bytes) → sought text T (indexBy (rows text T) (countIn T)) n w .number ≡ numberOfName text T w
-  number-found n w = found-number (indexBy (rows text T) (countIn T)) n w w _ refl refl refl
-
   pub latest-low : (w : Bytes) (n : ℕ) → latestOf (rows text T) w n ≤ n
   unfolding latestOf
   latest-low w zero = omega arith

@@ -42,7 +42,7 @@ fn print_name(text: &[u8], records: &[u32], count: usize, n: usize) -> bool {
         return true;
     }
     let mut line = [0u8; NAME];
-    let end = order_listing::name_line(&mut line, text, records, count, n);
+    let end = name_listing::name_line(&mut line, text, records, count, n);
     output::print(lexer::part(&line, 0, end.at))
 }
 

@@ -1,7 +1,7 @@
 -- `host_joining::tell_answer` meets its contract.
 use mathlib.Core.List.{[], _∷_}
 use mathlib.Core.Path.{ap, sym, _∙_}
-use Rattle.joiner.specs.Answer.{reasonOf, valuesOf}
+use Rattle.join_answer.specs.Answer.{reasonOf, valuesOf}
 use borrow.Author.Needs.{needs}
 use Rattle.host_joining.proofs.tell_answer.Statement.{statement}
 use Rattle.host_joining.proofs.tell_answer.Tie as tie

@@ -1,7 +1,7 @@
 -- `joiner::read_proposed` meets its contract.
 use mathlib.Core.Bool.{true}
 use mathlib.Core.Path.{refl}
-use Rattle.joiner.proofs.AnswerLaws.{read-refused, read-settled}
+use Rattle.joiner.proofs.ReadLaws.{read-refused, read-settled}
 use borrow.Author.Needs.{needs}
 use Rattle.joiner.proofs.read_proposed.Statement.{statement}
 use Rattle.joiner.proofs.read_proposed.Tie as tie

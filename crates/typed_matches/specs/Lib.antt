@@ -1,0 +1,2 @@
+-- Inner models of the proofs.
+pub mod Held

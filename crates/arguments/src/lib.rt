@@ -1,4 +1,6 @@
 // What a count, a string or a real of a primitive comes to: pure steps on values, which touch no lent memory.
+#![tactic(auto)]
+
 ghost use Rattle.std.specs.Prelude.{◌≡◌, ◌+◌, ◌-◌, leb};
 ghost use Rattle.arguments.specs.Steps.{integer_count_step, real_count_step, real_step, stored_in, string_count_step, string_step, with_string};
 

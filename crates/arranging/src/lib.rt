@@ -1,5 +1,7 @@
 // The order of what is taken of two hands' scenes: of the names whose needs already stand, the least by bytes comes next. Both hands
 // are numbered together, right's records first, then left's. Texts and tables may hold anything.
+#![tactic(auto)]
+
 ghost use Rattle.std.specs.Prelude.{[], ◌≡◌, ◌<◌, ◌+◌, length};
 ghost use Rattle.keys.specs.Key.{lower};
 ghost use Rattle.scene.specs.Record.{name_in};

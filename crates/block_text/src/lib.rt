@@ -1,4 +1,6 @@
 // Blocks of a text, by the places behind them, put into a lent output in an order.
+#![tactic(auto)]
+
 ghost use Rattle.std.specs.Prelude.{false, ◌≡◌, ◌-◌};
 ghost use Rattle.block_text.specs.BlockText.{WritesBlocks, block_in, blocks_in};
 ghost use Rattle.lines.specs.Puts.{Puts};

@@ -1,11 +1,13 @@
 // Where the blocks of a text end, one for each record of its table. Tables may hold anything.
+#![tactic(auto)]
+
 ghost use Rattle.std.specs.Prelude.{◌≡◌, length, replicate};
 ghost use Rattle.rearrangement.specs.Blocks.{behind_line, lines_end};
 ghost use Rattle.rearrangement.specs.Layout.{first_word};
 ghost use Rattle.blocks.specs.Code.{Cuts, crowded_cut, end_in, ends_to, tail_in};
 
 // The text can be cut, or why not, and where.
-#[derive(Drop)]
+#[derive(Clone, Copy)]
 pub enum Cut {
     Made,
     Refused(u32, usize),

@@ -1,4 +1,6 @@
 // Bytes and numbers put into a lent buffer: as many bytes as fit, and the place behind them as the answer.
+#![tactic(auto)]
+
 ghost use Rattle.std.specs.Prelude.{◌++◌, ◌≡◌, ◌^◌, ◌≤◌, ◌<◌, length, drop};
 ghost use Rattle.buffer.specs.Decimal.{decimal, digits};
 ghost use Rattle.buffer.specs.Put.{put, behind};

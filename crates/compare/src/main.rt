@@ -1,9 +1,11 @@
 // Compares the saves that two arguments name.
-fn main() {
-    let left = input::first();
-    if (os::arg_count() != left + 2) | input::has_unknown_option() {
-        output::print(b"usage: compare [--archive] LEFT RIGHT\n");
+#![tactic(auto)]
+
+fn main(rt: HostRuntime) {
+    let left = input::first(&rt);
+    if (input::arg_count(&rt) != left + 2) | input::has_unknown_option(&rt) {
+        output::print(&rt, b"usage: compare [--archive] LEFT RIGHT\n");
         return;
     }
-    saves::compare_arguments(input::mode(), left, left + 1);
+    saves::compare_arguments(&rt, input::mode(&rt), left, left + 1);
 }

@@ -1,4 +1,6 @@
 // Two saves compared, name by name. A table of records is lent up to its scene's last record: its length gives the count.
+#![tactic(auto)]
+
 ghost use Rattle.std.specs.Prelude.{[], ◌≡◌, suc};
 ghost use Rattle.keys.specs.Key.{nth_of};
 ghost use Rattle.keys.specs.Rows.{scene_rows};
@@ -6,14 +8,14 @@ ghost use Rattle.comparison.specs.NextLine.{next_line};
 ghost use Rattle.comparison.specs.Steps.{first_numbers, lesser_of, next_numbers, next_step, numbers_after, numbers_of, step_by};
 
 // A primitive's number in one of both scenes. Number 0 stands before the first key.
-#[derive(Drop)]
+#[derive(Clone, Copy)]
 pub enum Place {
     Left(usize),
     Right(usize),
 }
 
 // Only in the left scene, only in the right one, or in both and not the same.
-#[derive(Drop)]
+#[derive(Clone, Copy)]
 pub enum State {
     OnlyLeft,
     OnlyRight,
@@ -21,14 +23,14 @@ pub enum State {
 }
 
 // No line is left; or the next one: a primitive with its key, its nth, and its state.
-#[derive(Drop)]
+#[derive(Clone, Copy)]
 pub enum Next {
     End,
     Line(Place, usize, State),
 }
 
 // What a key comes to: neither scene has it, both have the same, or it has a line.
-#[derive(Drop)]
+#[derive(Clone, Copy)]
 enum Step {
     End,
     Same(Place),
@@ -36,7 +38,7 @@ enum Step {
 }
 
 // A key's number in each scene, 0 where that has none, and its nth; all 0 where neither scene has it.
-#[derive(Drop)]
+#[derive(Clone, Copy)]
 struct Numbers {
     left: usize,
     right: usize,

@@ -1,5 +1,7 @@
 // What two primitives are, compared: type, strings, reals by their bits, and the keys of alias target and modifier. Over texts
 // and tables that may hold anything.
+#![tactic(auto)]
+
 ghost use Rattle.std.specs.Prelude.{[], ◌≡◌};
 ghost use Rattle.bits.specs.Bits.{same_reals};
 ghost use Rattle.keys.specs.Key.{key_of, same_key};

@@ -1,4 +1,6 @@
 // What a step may look at beside its word: the record that a name leads to, and the two reals before.
+#![tactic(auto)]
+
 ghost use Rattle.std.specs.Prelude.{◌≡◌};
 ghost use Rattle.context.specs.Seen.{back, draft_in, is_looked_up, looked_for, real_before, seen_in};
 ghost use Rattle.index.specs.Searches.{sought};

@@ -1,12 +1,14 @@
 // The driver of the scene reader: plain statements whole, and through all else of a text step by step, each step done to the lent
 // tables.
+#![tactic(auto)]
+
 ghost use Rattle.driver.specs.Ending.{Ends};
 
 use scene::Mode;
 use statement::Step;
 
 // How reading ends: accepted with the counts of primitives, of reals and of entries looked at, or refused with reason and place.
-#[derive(Drop)]
+#[derive(Clone, Copy)]
 pub enum End {
     Accepted(usize, usize, u32),
     Refused(u32, usize),

@@ -1,4 +1,6 @@
 // The edges of a polygon, one at a time: products for the normal, the axis that is dropped for it, and crossings.
+#![tactic(auto)]
+
 ghost use Rattle.std.specs.Prelude.{◌≡◌};
 ghost use Rattle.edges.specs.Code.{axis_of, crossed_of};
 ghost use Rattle.edges.specs.Corners.{edge};
@@ -8,7 +10,7 @@ ghost use Rattle.edges.specs.Normal.{cross, dropped, first, is_zero, magnitude, 
 use steps::{Vector, is_finite, step};
 
 // The axis that is dropped.
-#[derive(Drop)]
+#[derive(Clone, Copy)]
 pub enum Dropped {
     X,
     Y,
@@ -16,7 +18,7 @@ pub enum Dropped {
 }
 
 // Whether an odd number of edges is crossed, where all of them were worked out.
-#[derive(Drop)]
+#[derive(Clone, Copy)]
 pub struct Edges {
     pub worked: bool,
     pub odd: bool,

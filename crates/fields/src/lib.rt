@@ -1,4 +1,6 @@
 // The fields of a line, put into a lent buffer: what a value is, and then the value.
+#![tactic(auto)]
+
 ghost use Rattle.std.specs.Prelude.{◌++◌, ◌≡◌};
 ghost use Rattle.buffer.specs.Decimal.{decimal};
 ghost use Rattle.buffer.specs.Put.{put, behind};

@@ -1,4 +1,6 @@
 // Questions to a finished table: a primitive's name, and its finish. The table may hold anything.
+#![tactic(auto)]
+
 ghost use Rattle.std.specs.Prelude.{◌≡◌};
 ghost use Rattle.finish.specs.Follow.{Follows, reached_of};
 ghost use Rattle.finish.specs.Question.{name_refusal, name_test, shown_name};
@@ -8,14 +10,14 @@ ghost use Rattle.table.specs.View.{view_of};
 use table::{KIND, MODIFIER, NAME, NAME_LENGTH};
 
 // A material's number, or 0, and the links followed; or a refusal's number and its count.
-#[derive(Drop)]
+#[derive(Clone, Copy)]
 pub enum Finish {
     Reached(usize, usize),
     Refused(u32, usize),
 }
 
 // What a link leads to: an answer, or a primitive to go on from.
-#[derive(Drop)]
+#[derive(Clone, Copy)]
 enum Link {
     Ended(Finish),
     On(usize),

@@ -1,4 +1,6 @@
 // The line of a surface with its finish, put into a lent buffer.
+#![tactic(auto)]
+
 ghost use Rattle.std.specs.Prelude.{◌≡◌, min, length};
 ghost use Rattle.buffer.specs.Put.{put, behind};
 ghost use Rattle.finish_listing.specs.FinishLine.{finish_line, material_of, surface_of};

@@ -1,4 +1,6 @@
 // Lent tables compared with those of a fresh reading.
+#![tactic(auto)]
+
 ghost use Rattle.std.specs.Prelude.{◌≡◌, get_or, length};
 ghost use Rattle.bits.specs.Bits.{same_reals};
 ghost use Rattle.laws.specs.Bytes.{same};
@@ -11,7 +13,7 @@ use reader::Answer;
 use scene::Mode;
 
 // The tables are those of a fresh reading of so many primitives; or why not.
-#[derive(Drop)]
+#[derive(Clone, Copy)]
 pub enum Fresh {
     Same(usize),
     Refused(u32, usize),

@@ -1,4 +1,6 @@
 // Fresnel's coefficients.
+#![tactic(auto)]
+
 ghost use Rattle.std.specs.Prelude.{◌≡◌};
 ghost use Rattle.steps.specs.Step.{◌⊕◌, ◌⊗◌, half};
 ghost use Rattle.fresnel.specs.Fresnel.{coefficient, cos2_squared, fresnel_of, reflected};
@@ -8,7 +10,7 @@ use root::root;
 use steps::{is_finite, step};
 
 // FTE, FTM and F; total reflection; or a refusal's number.
-#[derive(Drop)]
+#[derive(Clone, Copy)]
 pub enum Reflection {
     Coefficients(f64, f64, f64),
     Total,

@@ -1,4 +1,6 @@
 // The records of a table grouped by type, as far as the order of those that are held allows. Tables may hold anything.
+#![tactic(auto)]
+
 ghost use Rattle.std.specs.Prelude.{◌≡◌, ◌+◌, min, length, replicate};
 ghost use Rattle.scene.specs.Record.{filled, record_in};
 ghost use Rattle.ties.specs.Ties.{held_rows};

@@ -1,4 +1,6 @@
 // Where a ray hits a sphere or a ring: at a distance above a least one.
+#![tactic(auto)]
+
 ghost use Rattle.std.specs.Prelude.{◌∷◌, [], ◌≡◌};
 ghost use Rattle.hits.specs.Ahead.{ahead, default_least};
 ghost use Rattle.hits.specs.Outcome.{outcome_of};
@@ -13,19 +15,19 @@ use steps::{Vector, along, dot, is_finite, is_finite_vector, minus, step};
 // The least distance of a call that names none.
 pub const LEAST: f64 = 0.001;
 
-#[derive(Drop)]
+#[derive(Clone, Copy)]
 pub struct Ray {
     pub origin: Vector,
     pub direction: Vector,
 }
 
-#[derive(Drop)]
+#[derive(Clone, Copy)]
 pub struct Sphere {
     pub centre: Vector,
     pub radius: f64,
 }
 
-#[derive(Drop)]
+#[derive(Clone, Copy)]
 pub struct Ring {
     pub centre: Vector,
     pub normal: Vector,
@@ -34,7 +36,7 @@ pub struct Ring {
 }
 
 // A distance, a miss, or a refusal's number.
-#[derive(Drop)]
+#[derive(Clone, Copy)]
 pub enum Hit {
     At(f64),
     Miss,

@@ -1,4 +1,6 @@
 // Two hands' edits joined, as host programs are told of it: a number for the kind of answer, and its values in a small array.
+#![tactic(auto)]
+
 ghost use Rattle.std.specs.Prelude.{◌≡◌};
 ghost use Rattle.host_joining.specs.Host.{HostChecks, HostProposes};
 ghost use Rattle.join_answer.specs.Answer.{reason_of, scene_number, values_of};

@@ -1,4 +1,6 @@
 // The lines of a comparison, as host programs are handed them: a number for the kind of answer, and its values in a small array.
+#![tactic(auto)]
+
 ghost use Rattle.std.specs.Prelude.{◌≡◌};
 ghost use Rattle.comparison.specs.Answer.{state_number, values_of};
 ghost use Rattle.comparison.specs.declared.Next.TheVariants.{Line};

@@ -1,4 +1,6 @@
 // A scene with its glass moved, as host programs are told of it: a number for the kind of answer, and its values in a small array.
+#![tactic(auto)]
+
 ghost use Rattle.std.specs.Prelude.{◌≡◌};
 ghost use Rattle.host_moving.specs.Host.{HostMoves, direction_of};
 

@@ -1,4 +1,6 @@
 // A pane of glass, as host programs are told of it: a number for the kind of answer, and its values in a small array.
+#![tactic(auto)]
+
 ghost use Rattle.std.specs.Prelude.{◌≡◌};
 ghost use Rattle.host_pane.specs.Host.{factors_kind, factors_values, transmitted_kind, transmitted_values};
 ghost use Rattle.pane.specs.Factors.{factors_of};

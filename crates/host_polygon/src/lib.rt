@@ -1,4 +1,6 @@
 // Rays on polygons as host programs hand them in and are told of them.
+#![tactic(auto)]
+
 ghost use Rattle.std.specs.Prelude.{◌≡◌};
 ghost use Rattle.hits.specs.Ahead.{default_least};
 ghost use Rattle.host_rays.specs.Host.{hit_kind, hit_values, ray_in};

@@ -1,4 +1,6 @@
 // Whether the order of two entries mattered, as host programs are told of it: a number for the kind of answer, and its values in a small array.
+#![tactic(auto)]
+
 ghost use Rattle.std.specs.Prelude.{◌≡◌};
 ghost use Rattle.precedence.specs.Answer.{kind_of, order_of, values_of};
 

@@ -1,5 +1,7 @@
 // Rays and reflection as host programs hand them in and are told of them: small arrays of doubles, and a number for the kind of
 // answer.
+#![tactic(auto)]
+
 ghost use Rattle.std.specs.Prelude.{◌≡◌};
 ghost use Rattle.fresnel.specs.Fresnel.{fresnel_of};
 ghost use Rattle.hits.specs.Ahead.{default_least};

@@ -1,4 +1,6 @@
 // Readings as host programs are handed them: a number for the kind of answer, and its values in a small array.
+#![tactic(auto)]
+
 ghost use Rattle.std.specs.Prelude.{◌≡◌};
 ghost use Rattle.host_reading.specs.Host.{HostReads, HostReadsIndexed, mode_of};
 

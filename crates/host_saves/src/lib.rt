@@ -1,4 +1,6 @@
 // Two saves read, as host programs are told of it: a number for the kind of answer, and its values in a small array.
+#![tactic(auto)]
+
 ghost use Rattle.std.specs.Prelude.{◌≡◌};
 ghost use Rattle.pair.specs.Both.{side_number};
 ghost use Rattle.host_saves.specs.Host.{HostReadsBoth};

@@ -1,4 +1,6 @@
 // Answers about a finished scene as host programs are handed them: a number for the kind of answer, and its values in a small array.
+#![tactic(auto)]
+
 ghost use Rattle.std.specs.Prelude.{◌≡◌};
 ghost use Rattle.finish.specs.Question.{name_refusal};
 ghost use Rattle.host_scenes.specs.Host.{finish_reason, finish_values, name_part, word_values};

@@ -1,5 +1,7 @@
 // The materials that a primitive may show, as host programs are handed them: a number for the kind of answer, how many there are, and
 // the list.
+#![tactic(auto)]
+
 ghost use Rattle.std.specs.Prelude.{[], ◌∷◌, ◌≡◌, length};
 ghost use Rattle.host_shown.specs.Host.{shown_many, shown_reason};
 ghost use Rattle.shown.specs.List.{shown_list};

@@ -1,4 +1,6 @@
 // A sorted scene, as host programs are told of it: a number for the kind of answer, and its values in a small array.
+#![tactic(auto)]
+
 ghost use Rattle.host_sorting.specs.Host.{HostSorts};
 
 // Writes a scene sorted: the reason or 0, and the place of a refusal and the length of the text.

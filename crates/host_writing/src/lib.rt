@@ -1,4 +1,6 @@
 // A scene written out, as host programs are told of it: a number for the kind of answer, and its values in a small array.
+#![tactic(auto)]
+
 ghost use Rattle.std.specs.Prelude.{◌≡◌};
 ghost use Rattle.writer.specs.Answer.{reason_of, values_of};
 ghost use Rattle.host_writing.specs.Host.{HostTold, HostWrites};

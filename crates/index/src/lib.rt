@@ -1,5 +1,7 @@
 // The hashed index of names, and the one search that every look-up goes through: by the index where one of 2,048 entries is lent,
 // else from the latest record back.
+#![tactic(auto)]
+
 ghost use Rattle.std.specs.Prelude.{◌≡◌, ◌+◌, ◌*◌, ◌/◌, ◌%◌, ◌≤◌, ◌<◌, length, set};
 ghost use Rattle.laws.specs.Bytes.{part, same};
 ghost use Rattle.index.specs.Index.{hash, searched, size, stops};
@@ -13,7 +15,7 @@ pub const ENTRIES: usize = 2048;
 
 // Where a search ends, the number found there, 0 for none, and how many entries were looked at. A search without an index ends
 // behind the last entry.
-#[derive(Drop)]
+#[derive(Clone, Copy)]
 pub struct Found {
     pub entry: usize,
     pub number: usize,

@@ -1,11 +1,15 @@
 // Joins two hands' edits of a base, the files that three arguments name; or checks a fourth as a join of these. A refusal is said on
 // standard error too, as what is printed may be taken for a scene.
+#![tactic(auto)]
+
 use input::Loaded;
 use join_answer::Answer;
 use joining::{Choice, Scene};
-use libc::{STDERR_FILENO, STDOUT_FILENO};
+use output::ErrorStream;
 use reader::read_with_own_tables;
 use scene::Mode;
+use std::io;
+use std::rt::{Env, Files};
 use table::{MOST_BYTES, MOST_NUMBERS, MOST_REALS, MOST_RECORDS, first_records};
 
 // One byte more than a text may have: a text that is too long fills the room, and its reading refuses it.
@@ -15,32 +19,22 @@ const ROOM: usize = MOST_BYTES + 1;
 const UNREADABLE: usize = ROOM + 1;
 
 // How many bytes of the room a file's text has.
-fn load(argument: usize, text: &mut [u8]) -> usize {
-    match input::load_argument(argument, text) {
+fn load(rt: &(impl Env + Files), argument: usize, text: &mut [u8]) -> usize {
+    match input::load_argument(rt, argument, text) {
         Loaded::Text(n) => n,
         Loaded::TooLong => ROOM,
         Loaded::Unreadable => UNREADABLE,
     }
 }
 
-fn write_unreadable(fd: i32, word: &[u8]) -> bool {
-    io::write_all(fd, b"scene=") && io::write_all(fd, word) && io::write_all(fd, b" unreadable\n")
+fn print_unreadable(rt: &(impl Print + Eprint + ErrorStream), word: &str) {
+    let _ = println!(&rt.error_stream(); "scene={word} unreadable");
+    output::noticed(rt, println!(rt; "scene={word} unreadable"));
 }
 
-fn print_unreadable(word: &[u8]) {
-    write_unreadable(STDERR_FILENO, word);
-    output::noticed(write_unreadable(STDOUT_FILENO, word));
-}
-
-fn write_numbers(fd: i32, reason: u32, place: usize) -> bool {
-    io::write_all(fd, b"refused=")
-        && io::print_decimal(fd, reason as u64)
-        && io::write_all(fd, b" place=")
-        && io::print_decimal(fd, place as u64)
-}
-
-fn write_name(fd: i32, text: &[u8], records: &[u32], n: usize) -> bool {
-    io::write_all(fd, b" name=") && io::write_all(fd, table::name_of(text, records, n))
+fn write_name(to: &impl Print, text: &[u8], records: &[u32], n: usize) -> io::Result<()> {
+    to.write_all(b" name=")?;
+    to.write_all(table::name_of(text, records, n))
 }
 
 fn clashes(choice: Choice) -> bool {
@@ -53,9 +47,7 @@ fn clashes(choice: Choice) -> bool {
 
 // The first record of left whose name both hands changed differently; 0 for none.
 fn left_clash(left_right: &[usize], left_base: &[usize], right_base: &[usize]) -> usize {
-    let mut n = 0;
-    while n < left_right.len() {
-        n += 1;
+    for n in 1..=left_right.len() {
         if clashes(picking::choice_left(left_right, left_base, right_base, n)) {
             return n;
         }
@@ -70,9 +62,7 @@ fn right_clash(
     right_left: &[usize],
     right_base: &[usize],
 ) -> usize {
-    let mut n = 0;
-    while n < right_left.len() {
-        n += 1;
+    for n in 1..=right_left.len() {
         if clashes(picking::choice_right(left_right, left_base, right_left, right_base, n)) {
             return n;
         }
@@ -89,7 +79,7 @@ fn records_read(answer: reader::Answer) -> usize {
 
 // The name that both hands changed differently: left's first, or else right's. Behind a hand's last record there is no name to clash.
 fn write_clash(
-    fd: i32,
+    to: &impl Print,
     base: &[u8],
     base_records: &[u32],
     base_reals: &[f64],
@@ -99,7 +89,7 @@ fn write_clash(
     right: &[u8],
     right_records: &[u32],
     right_reals: &[f64],
-) -> bool {
+) -> io::Result<()> {
     let mut left_right = [0usize; MOST_RECORDS];
     let mut left_base = [0usize; MOST_RECORDS];
     let mut right_left = [0usize; MOST_RECORDS];
@@ -142,16 +132,23 @@ fn write_clash(
     );
     let n = left_clash(&left_right, &left_base, &right_base);
     if n != 0 {
-        return write_name(fd, left, left_records, n);
+        return write_name(to, left, left_records, n);
     }
     let m = right_clash(&left_right, &left_base, &right_left, &right_base);
-    write_name(fd, right, right_records, m)
+    write_name(to, right, right_records, m)
 }
 
 // What is said of a refusal behind its place: of 30, the name.
-fn write_more(fd: i32, mode: Mode, reason: u32, base: &[u8], left: &[u8], right: &[u8]) -> bool {
+fn write_more(
+    to: &impl Print,
+    mode: Mode,
+    reason: u32,
+    base: &[u8],
+    left: &[u8],
+    right: &[u8],
+) -> io::Result<()> {
     if reason != 30 {
-        return true;
+        return Ok(());
     }
     let mut base_records = [0u32; MOST_NUMBERS];
     let mut base_reals = [0.0f64; MOST_REALS];
@@ -168,7 +165,7 @@ fn write_more(fd: i32, mode: Mode, reason: u32, base: &[u8], left: &[u8], right:
         &mut right_reals,
     ));
     write_clash(
-        fd,
+        to,
         base,
         first_records(&base_records, bases),
         &base_reals,
@@ -182,7 +179,7 @@ fn write_more(fd: i32, mode: Mode, reason: u32, base: &[u8], left: &[u8], right:
 }
 
 fn write_refusal(
-    fd: i32,
+    to: &impl Print,
     mode: Mode,
     base: &[u8],
     left: &[u8],
@@ -190,15 +187,16 @@ fn write_refusal(
     scene: &[u8],
     reason: u32,
     place: usize,
-) -> bool {
-    io::write_all(fd, scene)
-        && write_numbers(fd, reason, place)
-        && write_more(fd, mode, reason, base, left, right)
-        && io::write_all(fd, b"\n")
+) -> io::Result<()> {
+    to.write_all(scene)?;
+    print!(to; "refused={reason} place={place}")?;
+    write_more(to, mode, reason, base, left, right)?;
+    to.write_all(b"\n")
 }
 
 // The line of a refusal, on standard error and on standard output.
 fn refuse(
+    rt: &(impl Print + Eprint + ErrorStream),
     mode: Mode,
     base: &[u8],
     left: &[u8],
@@ -207,8 +205,12 @@ fn refuse(
     reason: u32,
     place: usize,
 ) {
-    write_refusal(STDERR_FILENO, mode, base, left, right, scene, reason, place);
-    output::noticed(write_refusal(STDOUT_FILENO, mode, base, left, right, scene, reason, place));
+    let errors = rt.error_stream();
+    let _ = write_refusal(&errors, mode, base, left, right, scene, reason, place);
+    output::noticed(
+        rt,
+        write_refusal(rt, mode, base, left, right, scene, reason, place),
+    );
 }
 
 // A refusal's first field; `fourth` is that of a joined or a typed text.
@@ -224,31 +226,36 @@ fn scene_field<'a>(scene: Scene, fourth: &'a [u8], words: &'a [u8]) -> &'a [u8] 
 
 const WORDS: [u8; 34] = *b"scene=base scene=left scene=right ";
 
-fn join(mode: Mode, base: &[u8], left: &[u8], right: &[u8]) {
+fn join(
+    rt: &(impl Print + Eprint + ErrorStream),
+    mode: Mode,
+    base: &[u8],
+    left: &[u8],
+    right: &[u8],
+) {
     let mut records = [0u32; MOST_NUMBERS];
     let mut reals = [0.0f64; MOST_REALS];
     let mut out = [0u8; MOST_BYTES];
     match joiner::propose(mode, base, left, right, &mut records, &mut reals, &mut out) {
         Answer::Joined(len, _, _) => {
-            output::print(lexer::part(&out, 0, len));
+            output::print(rt, lexer::part(&out, 0, len));
         }
         Answer::Refused(scene, reason, place) => {
             let words = WORDS;
             let field = scene_field(scene, b"scene=joined ", &words);
-            refuse(mode, base, left, right, field, reason, place);
+            refuse(rt, mode, base, left, right, field, reason, place);
         }
     }
 }
 
-fn write_accepted(count: usize, doubles: usize) -> bool {
-    io::write_all(STDOUT_FILENO, b"joined primitives=")
-        && io::print_decimal(STDOUT_FILENO, count as u64)
-        && io::write_all(STDOUT_FILENO, b" reals=")
-        && io::print_decimal(STDOUT_FILENO, doubles as u64)
-        && io::write_all(STDOUT_FILENO, b"\n")
-}
-
-fn check(mode: Mode, base: &[u8], left: &[u8], right: &[u8], typed: &[u8]) {
+fn check(
+    rt: &(impl Print + Eprint + ErrorStream),
+    mode: Mode,
+    base: &[u8],
+    left: &[u8],
+    right: &[u8],
+    typed: &[u8],
+) {
     let mut records = [0u32; MOST_NUMBERS];
     let mut reals = [0.0f64; MOST_REALS];
     let mut out = [0u8; MOST_BYTES];
@@ -263,68 +270,90 @@ fn check(mode: Mode, base: &[u8], left: &[u8], right: &[u8], typed: &[u8]) {
         &mut out,
     ) {
         Answer::Joined(_, count, doubles) => {
-            output::noticed(write_accepted(count, doubles));
+            output::noticed(
+                rt,
+                println!(rt; "joined primitives={count} reals={doubles}"),
+            );
         }
         Answer::Refused(scene, reason, place) => {
             let words = WORDS;
             let field = scene_field(scene, b"scene=typed ", &words);
-            refuse(mode, base, left, right, field, reason, place);
+            refuse(rt, mode, base, left, right, field, reason, place);
         }
     }
 }
 
 // The text behind both hands', where an argument names one.
-fn join_or_check(mode: Mode, base: &[u8], left: &[u8], right: &[u8], argument: usize) {
-    if os::arg_count() <= argument {
-        join(mode, base, left, right);
+fn join_or_check(
+    rt: &(impl Env + Files + Print + Eprint + ErrorStream),
+    mode: Mode,
+    base: &[u8],
+    left: &[u8],
+    right: &[u8],
+    argument: usize,
+) {
+    if input::arg_count(rt) <= argument {
+        join(rt, mode, base, left, right);
         return;
     }
     let mut typed = [0u8; ROOM];
-    let n = load(argument, &mut typed);
+    let n = load(rt, argument, &mut typed);
     if n == UNREADABLE {
-        print_unreadable(b"typed");
+        print_unreadable(rt, "typed");
         return;
     }
-    check(mode, base, left, right, lexer::part(&typed, 0, n));
+    check(rt, mode, base, left, right, lexer::part(&typed, 0, n));
 }
 
-fn with_right(mode: Mode, base: &[u8], left: &[u8], argument: usize, next: usize) {
+fn with_right(
+    rt: &(impl Env + Files + Print + Eprint + ErrorStream),
+    mode: Mode,
+    base: &[u8],
+    left: &[u8],
+    argument: usize,
+    next: usize,
+) {
     let mut right = [0u8; ROOM];
-    let n = load(argument, &mut right);
+    let n = load(rt, argument, &mut right);
     if n == UNREADABLE {
-        print_unreadable(b"right");
+        print_unreadable(rt, "right");
         return;
     }
-    join_or_check(mode, base, left, lexer::part(&right, 0, n), next);
+    join_or_check(rt, mode, base, left, lexer::part(&right, 0, n), next);
 }
 
-fn with_left(mode: Mode, base: &[u8], first: usize) {
+fn with_left(
+    rt: &(impl Env + Files + Print + Eprint + ErrorStream),
+    mode: Mode,
+    base: &[u8],
+    first: usize,
+) {
     let mut left = [0u8; ROOM];
-    let n = load(lexer::least(first, 2) + 1, &mut left);
+    let n = load(rt, lexer::least(first, 2) + 1, &mut left);
     if n == UNREADABLE {
-        print_unreadable(b"left");
+        print_unreadable(rt, "left");
         return;
     }
     let right = lexer::least(first, 2) + 2;
-    with_right(mode, base, lexer::part(&left, 0, n), right, right + 1);
+    with_right(rt, mode, base, lexer::part(&left, 0, n), right, right + 1);
 }
 
-fn with_base(mode: Mode, first: usize) {
+fn with_base(rt: &(impl Env + Files + Print + Eprint + ErrorStream), mode: Mode, first: usize) {
     let mut base = [0u8; ROOM];
-    let n = load(first, &mut base);
+    let n = load(rt, first, &mut base);
     if n == UNREADABLE {
-        print_unreadable(b"base");
+        print_unreadable(rt, "base");
         return;
     }
-    with_left(mode, lexer::part(&base, 0, n), first);
+    with_left(rt, mode, lexer::part(&base, 0, n), first);
 }
 
-fn main() {
-    let first = input::first();
-    let count = os::arg_count();
-    if (count < first + 3) | (first + 4 < count) | input::has_unknown_option() {
-        output::print(b"usage: join [--archive] BASE LEFT RIGHT [TYPED]\n");
+fn main(rt: HostRuntime) {
+    let first = input::first(&rt);
+    let count = input::arg_count(&rt);
+    if (count < first + 3) | (first + 4 < count) | input::has_unknown_option(&rt) {
+        output::print(&rt, b"usage: join [--archive] BASE LEFT RIGHT [TYPED]\n");
         return;
     }
-    with_base(input::mode(), first);
+    with_base(&rt, input::mode(&rt), first);
 }

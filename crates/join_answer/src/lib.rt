@@ -1,4 +1,6 @@
 // What a joining call answers, and leaves in all that is lent: a refusal, or an accepted text.
+#![tactic(auto)]
+
 ghost use Rattle.join_answer.specs.Answer.{Joins};
 ghost use Rattle.join_answer.specs.Settled.{Settles};
 ghost use Rattle.joining.specs.Outcome.{refused};
@@ -7,7 +9,7 @@ use joining::Scene;
 use lines::Cursor;
 
 // The length of the accepted text and its counts of primitives and reals; or which text is refused, why and where.
-#[derive(Drop)]
+#[derive(Clone, Copy)]
 pub enum Answer {
     Joined(usize, usize, usize),
     Refused(Scene, u32, usize),

@@ -1,5 +1,7 @@
 // An order of both hands' records beside texts: its own tidy text, and whether a typed scene holds it. Both hands' texts are read
 // again, and where one of them is refused nothing is said. Both are numbered together, right's records first, then left's.
+#![tactic(auto)]
+
 ghost use Rattle.std.specs.Prelude.{◌≡◌};
 ghost use Rattle.joined_hands.specs.Hands.{HoldsHands, PutsHands, RoomFor, holds_rows};
 

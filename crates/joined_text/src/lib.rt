@@ -1,4 +1,6 @@
 // The tidy text of two hands' records in an order of their numbers, right's first, then left's, put into a lent output.
+#![tactic(auto)]
+
 ghost use Rattle.std.specs.Prelude.{false};
 ghost use Rattle.lines.specs.Puts.{Puts};
 ghost use Rattle.joined_text.specs.JoinedText.{number_text, order_text};

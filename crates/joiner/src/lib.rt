@@ -1,4 +1,6 @@
 // Two hands' edits of a base joined: a proposed scene, and the check of a typed one.
+#![tactic(auto)]
+
 ghost use Rattle.join_answer.specs.Answer.{Joins};
 ghost use Rattle.joiner.specs.Code.{ChecksOrder, ProposesOrder, read_proposed};
 ghost use Rattle.joining.specs.Outcome.{checked, proposed};

@@ -1,7 +1,8 @@
 // Two hands' edits of a base scene joined: specs/ has the definitions, proofs/ their laws. No function.
+#![tactic(auto)]
 
 // Whose definition of a name is taken, or that both hands changed it differently.
-#[derive(Drop)]
+#[derive(Clone, Copy)]
 pub enum Choice {
     Left,
     Right,
@@ -9,7 +10,7 @@ pub enum Choice {
 }
 
 // Which text a refusal names; none where it is of no text.
-#[derive(Drop)]
+#[derive(Clone, Copy)]
 pub enum Scene {
     None,
     Base,

@@ -1,5 +1,7 @@
 // Names and keys, over a text and a table of records that may hold anything. A table has as many records as its length gives
 // whole ones, and number 0 stands for no primitive.
+#![tactic(auto)]
+
 ghost use Rattle.std.specs.Prelude.{cond, ◌≡◌, [], ◌/◌, suc, leb, length};
 ghost use Rattle.laws.specs.Bytes.{same};
 ghost use Rattle.scene.specs.Record.{name_in, width};

@@ -1,4 +1,6 @@
 // The 25 types: their groups, counts and house rules.
+#![tactic(auto)]
+
 ghost use Rattle.std.specs.Prelude.{◌≡◌, ◌≤◌, ◌<◌};
 ghost use Rattle.scene.specs.HouseRules.{breach_at, house_rules, is_above0, is_at_least0, is0};
 ghost use Rattle.scene.specs.Types.{allows, is_material, is_modifier, is_retired, is_surface, kind_of, reals_allowed, strings_allowed};

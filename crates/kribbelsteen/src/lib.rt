@@ -1,6 +1,8 @@
 // The entry points for host programs, under C's calling convention: numbers, slices and small arrays, no precondition. Each is
 // the call of the same promise in `host_reading`, `host_scenes`, `host_shown`, `host_saves`, `host_lines`, `host_writing`,
 // `host_moving`, `host_sorting`, `host_precedence`, `host_joining`, `host_rays`, `host_polygon`, `host_pane`, `ranks` or `root`.
+#![tactic(auto)]
+
 ghost use Rattle.std.specs.Prelude.{[], ◌∷◌, ◌≡◌, length, replicate};
 ghost use Rattle.finish.specs.Question.{name_refusal};
 ghost use Rattle.fresnel.specs.Fresnel.{fresnel_of};

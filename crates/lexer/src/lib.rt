@@ -1,4 +1,6 @@
 // The bytes and words of a text.
+#![tactic(auto)]
+
 ghost use Rattle.std.specs.Prelude.{cond, ◌≡◌, ◌≤◌, min, leb, length, take};
 ghost use Rattle.laws.specs.Bytes.{part, same};
 ghost use Rattle.laws.specs.Runs.{past};
@@ -28,7 +30,7 @@ const CLASSES: [u8; 256] = [
 ];
 
 // A word of a text: where it starts and how many bytes it has.
-#[derive(Drop)]
+#[derive(Clone, Copy)]
 pub struct Word {
     pub place: usize,
     pub len: usize,
@@ -212,7 +214,7 @@ pub fn word_fault(word: &[u8]) -> u8
 }
 
 // A word with the reason for refusing it by its bytes, 0 for none.
-#[derive(Drop)]
+#[derive(Clone, Copy)]
 pub struct Checked {
     pub place: usize,
     pub len: usize,

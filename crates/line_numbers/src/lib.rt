@@ -1,4 +1,6 @@
 // The line of a place, and that of a name, counted as the names come.
+#![tactic(auto)]
+
 ghost use Rattle.std.specs.Prelude.{cond, ◌≡◌, ◌≤◌, eqb};
 ghost use Rattle.line_numbers.specs.Lines.{line_before, line_from};
 ghost use Rattle.scene.specs.Record.{line_at, newlines};

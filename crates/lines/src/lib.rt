@@ -1,4 +1,6 @@
 // Words and argument lines of a tidy text, put into a lent output one behind the other.
+#![tactic(auto)]
+
 ghost use Rattle.std.specs.Prelude.{◌∷◌, ◌≡◌};
 ghost use Rattle.laws.specs.Bytes.{byte};
 ghost use Rattle.scene.specs.Told.{words_from};
@@ -7,7 +9,7 @@ ghost use Rattle.lines.specs.Arguments.{argument_lines};
 ghost use Rattle.lines.specs.Puts.{Puts};
 
 // Where the next byte goes, and whether some byte did not fit.
-#[derive(Drop)]
+#[derive(Clone, Copy)]
 pub struct Cursor {
     pub at: usize,
     pub full: bool,

@@ -1,4 +1,6 @@
 // The record of a complete statement entered into the tables: its row, the next of the earlier one of its name, and the index.
+#![tactic(auto)]
+
 ghost use Rattle.std.specs.Prelude.{◌≡◌, ◌+◌, ◌*◌, ◌≤◌, length};
 ghost use Rattle.std.proofs.lemmas.List.Edits.{sets};
 ghost use Rattle.linker.specs.Entered.{behind_in, earlier_in, entered_at, entered_in, indexed_in, looked_in, row_of, told_in};

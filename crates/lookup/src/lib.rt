@@ -1,4 +1,6 @@
 // The look-up of a name in a table of records that may hold anything: a search from the latest record back, past surfaces.
+#![tactic(auto)]
+
 ghost use Rattle.std.specs.Prelude.{[], ◌≡◌, ◌/◌, min, length};
 ghost use Rattle.lookup.specs.Lookup.{latest_in};
 ghost use Rattle.scene.specs.Record.{width};

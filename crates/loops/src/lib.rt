@@ -1,4 +1,6 @@
 // The lowest primitive that leads back to itself over modifier links and sides, through materials too. The tables may hold anything.
+#![tactic(auto)]
+
 ghost use Rattle.std.specs.Prelude.{◌≡◌, length};
 ghost use Rattle.graph.specs.Graph.{graph_of};
 ghost use Rattle.loops.specs.Found.{Finds, Tells};

@@ -1,5 +1,7 @@
 // The definitions of one scene beside those of another: for each, where its name stands there and whether it is defined alike. Over
 // texts and tables that may hold anything.
+#![tactic(auto)]
+
 ghost use Rattle.std.specs.Prelude.{◌≡◌, ◌≤◌, length};
 ghost use Rattle.index.specs.Index.{index_by};
 ghost use Rattle.name_index.specs.Names.{count_in, number_of_name, rows};

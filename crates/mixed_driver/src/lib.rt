@@ -1,5 +1,7 @@
 // The driver of the scene reader with mixtures resolved: when all of a text is read, both sides of each mixture are looked up, and
 // loops are refused.
+#![tactic(auto)]
+
 ghost use Rattle.std.specs.Prelude.{◌≡◌};
 ghost use Rattle.mixed_driver.specs.Paired.{EndsPaired, enough_pairs, short_reason};
 

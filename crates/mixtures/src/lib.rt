@@ -1,5 +1,7 @@
 // What a primitive leads to over modifier links and both sides of mixtures: a walk that marks what it reaches. The tables may hold
 // anything.
+#![tactic(auto)]
+
 ghost use Rattle.std.specs.Prelude.{◌≡◌, length};
 ghost use Rattle.graph.specs.Graph.{goes_from, graph_of, side_in};
 ghost use Rattle.scene.specs.Record.{field_in};

@@ -1,4 +1,6 @@
 // The moved text of records, put into a lent output.
+#![tactic(auto)]
+
 ghost use Rattle.std.specs.Prelude.{false, ◌≡◌};
 ghost use Rattle.lines.specs.Puts.{Puts};
 ghost use Rattle.moved_text.specs.MovedText.{change_of, glass_text, moved_row, moved_rows, spelled_at};
@@ -8,7 +10,7 @@ use lines::Cursor;
 use moving::Direction;
 
 // What becomes of a record's reals.
-#[derive(Drop)]
+#[derive(Clone, Copy)]
 pub enum Change {
     Kept,
     Added,

@@ -1,4 +1,6 @@
 // A scene written out, tidy, with its glass moved.
+#![tactic(auto)]
+
 ghost use Rattle.std.specs.Prelude.{◌≡◌};
 ghost use Rattle.mover.specs.Answer.{Moves, moved_refusal};
 ghost use Rattle.mover.specs.Code.{WritesMoved, reals_in, reals_to};

@@ -1,7 +1,8 @@
 // Moving scenes between glass of three reals and glass whose index is spelled out: specs/ has the definitions, proofs/ their laws.
+#![tactic(auto)]
 
 // Forth, to four reals; or back, to three.
-#[derive(Drop)]
+#[derive(Clone, Copy)]
 pub enum Direction {
     Forth,
     Back,

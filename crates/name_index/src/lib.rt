@@ -1,5 +1,7 @@
 // The names of a scene, surfaces counted, found by an index of their own. Over a text and a table of records that may hold anything;
 // of the table the first 1,024 whole records are looked at.
+#![tactic(auto)]
+
 ghost use Rattle.std.specs.Prelude.{◌≡◌, ◌≤◌, set};
 ghost use Rattle.index.specs.Index.{index_by};
 ghost use Rattle.index.specs.Searches.{sought};

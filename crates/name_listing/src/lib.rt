@@ -1,4 +1,6 @@
 // The line of a name that is given more than once, put into a lent buffer.
+#![tactic(auto)]
+
 ghost use Rattle.std.specs.Prelude.{false, ◌≡◌};
 ghost use Rattle.lines.specs.Puts.{Puts};
 ghost use Rattle.name_listing.specs.NameLine.{definition_text, definition_texts, first_user, later_text, later_users, name_line, uses, users_text};

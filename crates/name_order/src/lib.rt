@@ -1,5 +1,7 @@
 // The records of a scene in the order of their names: a merge sort between two lent tables, each run twice as long as those it
 // is merged from. The text and the records may hold anything.
+#![tactic(auto)]
+
 ghost use Rattle.std.specs.Prelude.{◌≡◌, ◌+◌, ◌≤◌, drop, length, replicate};
 ghost use Rattle.scene.specs.Record.{filled};
 ghost use Rattle.name_order.specs.Merge.{Equal, Numbered, Round, Runs, merge, right_first};

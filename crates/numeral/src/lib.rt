@@ -1,4 +1,6 @@
 // Counts and numerals.
+#![tactic(auto)]
+
 mod double;
 
 ghost use Rattle.std.specs.Prelude.{◌≡◌, ◌^◌, ◌<◌};
@@ -11,13 +13,13 @@ ghost use Rattle.numeral_parts.specs.Read.{exponent_in};
 
 use numeral_parts::{Digits, Exponent, Mantissa};
 
-#[derive(Drop)]
+#[derive(Clone, Copy)]
 pub enum Count {
     Value(u32),
     Malformed,
 }
 
-#[derive(Drop)]
+#[derive(Clone, Copy)]
 pub enum Numeral {
     Value(f64),
     Malformed,
@@ -25,7 +27,7 @@ pub enum Numeral {
 }
 
 // A value, where it was found by one exact step.
-#[derive(Drop)]
+#[derive(Clone, Copy)]
 pub struct ExactValue {
     pub good: bool,
     pub value: f64,

@@ -1,4 +1,6 @@
 // The parts of a numeral: rows of decimal digits, the sign, the mantissa and the exponent.
+#![tactic(auto)]
+
 ghost use Rattle.std.specs.Prelude.{◌≡◌, true, ◌+◌, ◌*◌, ◌-◌, ◌≤◌, min, drop};
 ghost use Rattle.numeral_parts.specs.Digits.{is_digit};
 ghost use Rattle.numeral_parts.specs.Parts.{index_of, is_sign, negative, unsigned};
@@ -8,7 +10,7 @@ ghost use Rattle.numeral_parts.specs.Saturated.{limit, read, saturated};
 // The least coefficient that is too large. A larger one is kept as this.
 pub const LIMIT: u64 = 1_000_000_000_000_000;
 
-#[derive(Drop)]
+#[derive(Clone, Copy)]
 pub enum Digits {
     Value(u64),
     Malformed,
@@ -61,13 +63,13 @@ pub fn digits_of(word: &[u8]) -> Digits
 }
 
 // The coefficient, kept at the limit, and how many of its digits stand behind the point.
-#[derive(Drop)]
+#[derive(Clone, Copy)]
 pub enum Mantissa {
     Value { coefficient: u64, after: u64 },
     Malformed,
 }
 
-#[derive(Drop)]
+#[derive(Clone, Copy)]
 pub enum Exponent {
     Up(u64),
     Down(u64),

@@ -1,5 +1,7 @@
 // A numeral read where it stands in a text, in one pass over its bytes. It is right where it says so: what is written in a
 // rarer way, with a plus sign, an `E` or more digits than fit, is left to the slower reader.
+#![tactic(auto)]
+
 ghost use Rattle.std.specs.Prelude.{◌≡◌, cond, true, false, ◌+◌, ◌-◌, ◌^◌, ◌<◌};
 ghost use Rattle.numeral_parts.specs.Saturated.{limit};
 ghost use Rattle.numeral_scan.specs.Pieces.{stands, RowAt, FractionAt, ExponentAt, PowerAt};
@@ -9,14 +11,14 @@ ghost use Rattle.numeral_scan.specs.Scan.{ReadAt};
 const ROOM: u64 = 100_000_000_000_000;
 
 // Digits: the place behind them, and the number they read as behind those before.
-#[derive(Drop)]
+#[derive(Clone, Copy)]
 struct Row {
     end: usize,
     value: u64,
 }
 
 // An exponent: the place behind it, and the powers of ten up and down.
-#[derive(Drop)]
+#[derive(Clone, Copy)]
 struct Power {
     good: bool,
     end: usize,
@@ -25,7 +27,7 @@ struct Power {
 }
 
 // A numeral: the place behind it, and its value.
-#[derive(Drop)]
+#[derive(Clone, Copy)]
 pub struct Scanned {
     pub good: bool,
     pub end: usize,

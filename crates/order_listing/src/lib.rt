@@ -1,4 +1,6 @@
 // The line of two entries whose order is asked about, put into a lent buffer.
+#![tactic(auto)]
+
 ghost use Rattle.std.specs.Prelude.{false, ◌++◌, ◌≡◌};
 ghost use Rattle.buffer.specs.Decimal.{decimal};
 ghost use Rattle.lines.specs.Puts.{Puts};

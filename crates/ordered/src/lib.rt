@@ -1,5 +1,7 @@
 // Two saves compared by two cursors, each along an order of one scene's names. An order is a table: numbers in its first half,
 // and from there on the nth of each number. Texts and tables may hold anything, and cursors may stand anywhere.
+#![tactic(auto)]
+
 ghost use Rattle.std.specs.Prelude.{◌≡◌, drop, get_or};
 ghost use Rattle.content.specs.Content.{same_content};
 ghost use Rattle.keys.specs.Key.{same_key};
@@ -11,21 +13,21 @@ use comparison::{Place, State};
 use table::{MODIFIER, TARGET};
 
 // How far each order is walked.
-#[derive(Drop)]
+#[derive(Clone, Copy)]
 pub struct Cursors {
     pub left: usize,
     pub right: usize,
 }
 
 // No line is left; or the next one: where to go on, a primitive with its key, its nth, and its state.
-#[derive(Drop)]
+#[derive(Clone, Copy)]
 pub enum Next {
     End,
     Line(Cursors, Place, usize, State),
 }
 
 // Which of two keys goes first: both where they are the same.
-#[derive(Drop)]
+#[derive(Clone, Copy)]
 enum Order {
     LeftFirst,
     RightFirst,
@@ -33,7 +35,7 @@ enum Order {
 }
 
 // What the first of both orders come to: a number with its nth has a line, or both are the same.
-#[derive(Drop)]
+#[derive(Clone, Copy)]
 enum Turn {
     End,
     Left(usize, usize),

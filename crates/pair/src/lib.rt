@@ -1,18 +1,20 @@
 // Two texts read afresh into tables of their own.
+#![tactic(auto)]
+
 ghost use Rattle.pair.specs.Both.{ReadsBoth};
 
 use reader::{Answer, read_with_own_tables};
 use scene::Mode;
 
 // Which scene.
-#[derive(Drop)]
+#[derive(Clone, Copy)]
 pub enum Side {
     Left,
     Right,
 }
 
 // The counts of primitives and reals, left then right; or the scene refused, with the reader's reason and place.
-#[derive(Drop)]
+#[derive(Clone, Copy)]
 pub enum Both {
     Read(usize, usize, usize, usize),
     Refused(Side, u32, usize),

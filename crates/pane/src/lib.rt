@@ -1,4 +1,6 @@
 // A pane of glass: the two factors of its interreflection, and the transmissivity of a transmittance.
+#![tactic(auto)]
+
 ghost use Rattle.std.specs.Prelude.{◌≡◌};
 ghost use Rattle.pane.specs.Factors as factors;
 ghost use Rattle.pane.specs.Factors.{back_part, factors_of, is_fraction, rest, through_part};
@@ -9,14 +11,14 @@ use root::root;
 use steps::{is_finite, step};
 
 // The factors of what goes through and of what comes back; or a refusal's number.
-#[derive(Drop)]
+#[derive(Clone, Copy)]
 pub enum Interreflection {
     Both(f64, f64),
     Refused(u32),
 }
 
 // A transmissivity, or a refusal's number.
-#[derive(Drop)]
+#[derive(Clone, Copy)]
 pub enum Transmitted {
     Transmissivity(f64),
     Refused(u32),

@@ -1,4 +1,6 @@
 // What stands next in a scene text, and what it does to the open statement: steps on values, which only look at the tables.
+#![tactic(auto)]
+
 ghost use Rattle.std.specs.Prelude.{◌≡◌};
 ghost use Rattle.parser.specs.Steps.{Scanned, end_of, next_step, step_of, word_of, word_step};
 

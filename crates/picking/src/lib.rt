@@ -1,5 +1,7 @@
 // Which definitions are taken of two hands' scenes, from the matches of each hand's records in the other's scene and in the base.
 // Both hands are numbered together: right's records first, then left's.
+#![tactic(auto)]
+
 ghost use Rattle.std.specs.Prelude.{◌≡◌, length};
 ghost use Rattle.joining.specs.Pick.{chosen};
 ghost use Rattle.picking.specs.Picking.{Picks, choice_left, choice_right, is_equal, mark_at, mark_left, mark_right, right_kept};
@@ -15,7 +17,7 @@ pub const WAITING: usize = 1;
 const CLASHES: usize = 2;
 
 // How many are taken, or that both hands changed a name differently.
-#[derive(Drop)]
+#[derive(Clone, Copy)]
 pub enum Picked {
     Count(usize),
     Clash,

@@ -1,5 +1,7 @@
 // Statements that are written plainly, read whole: their words are taken one after the other, and no state is handed on between
 // them. What is written in another way, or wrongly, is left to the steps of the parser, which begin where the last plain word ended.
+#![tactic(auto)]
+
 ghost use Rattle.std.specs.Prelude.{cond, false, true, List, ◌≡◌, ℕ, ◌+◌, ◌-◌, ◌≤◌, ◌<◌, eqb};
 ghost use Rattle.plain.specs.Plain.{Begins, Counting, Fills, Links, Names, Opens, Stores, alias_at, idle_at, primitive_at, state_at, unfilled};
 ghost use Rattle.context.specs.Seen.{back};
@@ -15,7 +17,7 @@ use statement::{Draft, Phase, State, narrow};
 use word_scan::{Passed, Valued};
 
 // Between two statements, or within one: the place and its line, records and reals stored, entries of the index looked at.
-#[derive(Drop)]
+#[derive(Clone, Copy)]
 struct Between {
     at: usize,
     line: usize,
@@ -25,7 +27,7 @@ struct Between {
 }
 
 // The number that a modifier leads to, and the entries looked at for it.
-#[derive(Drop)]
+#[derive(Clone, Copy)]
 struct Link {
     good: bool,
     number: u32,
@@ -33,7 +35,7 @@ struct Link {
 }
 
 // A statement behind its modifier: the place and the line there, the entries looked at, and the link.
-#[derive(Drop)]
+#[derive(Clone, Copy)]
 struct Opened {
     good: bool,
     at: usize,
@@ -43,7 +45,7 @@ struct Opened {
 }
 
 // The counts of a primitive that has no strings: how many reals come, the place behind, and the lines that end before it.
-#[derive(Drop)]
+#[derive(Clone, Copy)]
 struct Counts {
     good: bool,
     reals: u32,
@@ -53,7 +55,7 @@ struct Counts {
 
 // A statement up to its reals: the place and the line there, the entries looked at, how many reals come, the line of its name, and
 // its record.
-#[derive(Drop)]
+#[derive(Clone, Copy)]
 struct Head {
     good: bool,
     at: usize,
@@ -65,7 +67,7 @@ struct Head {
 }
 
 // How far the reals were stored: how many are left, and the place, its line and the reals stored then.
-#[derive(Drop)]
+#[derive(Clone, Copy)]
 struct Filled {
     left: u32,
     at: usize,

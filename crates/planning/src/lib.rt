@@ -1,5 +1,7 @@
 // What is to be joined of a base and two hands' scenes: each text read, each name's definition picked, and all in their order. Both
 // hands are numbered together, right's records first, then left's.
+#![tactic(auto)]
+
 ghost use Rattle.std.specs.Prelude.{not, ◌&&◌, ◌≡◌, ◌+◌, ◌/◌, ◌≤◌, drop, length, take};
 ghost use Rattle.join_meaning.specs.Rows.{pick_rows, row_plan};
 ghost use Rattle.name_index.specs.Names.{names_once_in};
@@ -18,21 +20,21 @@ use table::{MOST_NUMBERS, MOST_REALS, MOST_RECORDS, WIDTH};
 pub const MOST_BOTH: usize = 2 * MOST_RECORDS;
 
 // How many numbers have their places; or which text is refused, why and where.
-#[derive(Drop)]
+#[derive(Clone, Copy)]
 pub enum Reply {
     Ordered(usize),
     Refused(Scene, u32, usize),
 }
 
 // An answer with the numbers in their order.
-#[derive(Drop)]
+#[derive(Clone, Copy)]
 pub struct Planned {
     pub answer: Reply,
     pub order: [usize; MOST_BOTH],
 }
 
 // How many numbers have their places, or why not.
-#[derive(Drop)]
+#[derive(Clone, Copy)]
 pub enum Order {
     Made(usize),
     Stopped(u32),

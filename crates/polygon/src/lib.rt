@@ -1,4 +1,6 @@
 // Where a ray hits a polygon.
+#![tactic(auto)]
+
 ghost use Rattle.std.specs.Prelude.{cond, not, ◌∷◌, ◌≡◌, ◌+◌, ◌*◌, ◌≤◌, drop, length};
 ghost use Rattle.std.specs.Float.Ieee.Scale.{finite};
 ghost use Rattle.edges.specs.Code.{axis_of, crossed_of};

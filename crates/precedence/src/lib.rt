@@ -1,4 +1,6 @@
 // Whether the order of two entries mattered. Tables may hold anything.
+#![tactic(auto)]
+
 ghost use Rattle.std.specs.Prelude.{◌≡◌, ◌+◌, ◌<◌, drop, get_or, length};
 ghost use Rattle.holding.specs.Shortest.{first_link, first_on, nearest};
 ghost use Rattle.ties.specs.Ties.{bound_rows};
@@ -13,7 +15,7 @@ const PLACES: usize = MOST_RECORDS + 1;
 
 // Nothing holds their order; or a chain of entries does, with the entry that it goes to first and the one whose name binds; or why
 // they cannot be asked about.
-#[derive(Drop)]
+#[derive(Clone, Copy)]
 pub enum Order {
     Free,
     Held(usize, usize),

@@ -1,4 +1,6 @@
 // Which definition of its name each record of a scene is, by the order of the records.
+#![tactic(auto)]
+
 ghost use Rattle.std.specs.Prelude.{◌≡◌, ◌-◌, ◌/◌, ◌<◌, length, replicate, take};
 ghost use Rattle.ranks.specs.Rank.{order_table, rank_behind, ranks_of, with_entry, with_ranks};
 

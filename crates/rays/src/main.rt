@@ -1,12 +1,14 @@
 // The answer to each case on standard input: a ray at a sphere, a ring or a polygon, a Fresnel value, a pane of glass or a root. A
 // case is a line: its kind, and the bits of its doubles in hex. A ray's least distance is 0, which the lamp tracer passes by name;
 // kinds that end in _above have it as the last number, and those in _default name none.
+#![tactic(auto)]
+
 ghost use Rattle.std.specs.Prelude.{◌+◌, ◌≤◌};
 
 use fresnel::Reflection;
 use hits::{Hit, Ray, Ring, Sphere};
-use libc::{STDIN_FILENO, STDOUT_FILENO};
 use pane::{Interreflection, Transmitted};
+use std::io::Read;
 use steps::Vector;
 
 // A polygon of 40 corners with a least distance has the most.
@@ -15,7 +17,7 @@ const NUMBERS: usize = 127;
 // Enough for it, whose line has 2,172 bytes.
 const LINE: usize = 2304;
 
-#[derive(Drop)]
+#[derive(Clone, Copy)]
 enum Pattern {
     Bits(u64),
     Malformed,
@@ -35,14 +37,12 @@ fn pattern_of(word: &[u8]) -> Pattern {
         return Pattern::Malformed;
     }
     let mut bits: u64 = 0;
-    let mut i = 0;
-    while i < word.len() {
-        let digit = hex_digit(word[i]);
+    for b in word {
+        let digit = hex_digit(*b);
         if digit == 16 {
             return Pattern::Malformed;
         }
         bits = bits << 4 | digit as u64;
-        i += 1;
     }
     Pattern::Bits(bits)
 }
@@ -58,14 +58,10 @@ fn double_of(bits: u64) -> f64 {
 // Reads the words from `at` on as doubles, and how many they are: more than there is room for where one is malformed.
 fn read_numbers(line: &[u8], at: usize, numbers: &mut [f64; NUMBERS]) -> usize {
     let mut end = at;
-    let mut count = 0;
-    loop {
+    for count in 0..NUMBERS {
         let word = lexer::next_word(line, end);
         if word.len == 0 {
             return count;
-        }
-        if count == NUMBERS {
-            return NUMBERS + 1;
         }
         match pattern_of(lexer::part(line, word.place, word.len)) {
             Pattern::Bits(bits) => {
@@ -75,9 +71,12 @@ fn read_numbers(line: &[u8], at: usize, numbers: &mut [f64; NUMBERS]) -> usize {
                 return NUMBERS + 1;
             }
         }
-        count += 1;
         end = lexer::word_end(line, word.place);
     }
+    if lexer::next_word(line, end).len == 0 {
+        return NUMBERS;
+    }
+    NUMBERS + 1
 }
 
 fn vector(numbers: &[f64; NUMBERS], from: usize) -> Vector
@@ -113,79 +112,84 @@ fn ring(numbers: &[f64; NUMBERS]) -> Ring {
     }
 }
 
-fn print(text: &[u8]) {
-    io::write_all(STDOUT_FILENO, text);
+fn print(rt: &impl Print, text: &[u8]) {
+    let _ = rt.write_all(text);
 }
 
 // A double's bits after a blank. A NaN has none of its own.
-fn print_double(x: f64) {
+fn print_double(rt: &impl Print, x: f64) {
     if x == x {
-        print(b" ");
-        io::print_hex(STDOUT_FILENO, f64::to_bits(x), 16);
+        let bits = f64::to_bits(x);
+        let _ = print!(rt; " {bits:016x}");
     } else {
-        print(b" nan");
+        print(rt, b" nan");
     }
 }
 
-fn print_refusal(reason: u32) {
-    print(b"refused ");
-    io::print_decimal(STDOUT_FILENO, reason as u64);
+fn print_refusal(rt: &impl Print, reason: u32) {
+    let _ = print!(rt; "refused {reason}");
 }
 
-fn print_hit(hit: Hit) {
+fn print_hit(rt: &impl Print, hit: Hit) {
     match hit {
         Hit::At(t) => {
-            print(b"at");
-            print_double(t);
+            print(rt, b"at");
+            print_double(rt, t);
         }
-        Hit::Miss => print(b"miss"),
-        Hit::Refused(reason) => print_refusal(reason),
+        Hit::Miss => print(rt, b"miss"),
+        Hit::Refused(reason) => print_refusal(rt, reason),
     }
 }
 
-fn print_reflection(reflection: Reflection) {
+fn print_reflection(rt: &impl Print, reflection: Reflection) {
     match reflection {
         Reflection::Coefficients(te, tm, f) => {
-            print(b"coefficients");
-            print_double(te);
-            print_double(tm);
-            print_double(f);
+            print(rt, b"coefficients");
+            print_double(rt, te);
+            print_double(rt, tm);
+            print_double(rt, f);
         }
-        Reflection::Total => print(b"total"),
-        Reflection::Refused(reason) => print_refusal(reason),
+        Reflection::Total => print(rt, b"total"),
+        Reflection::Refused(reason) => print_refusal(rt, reason),
     }
 }
 
 // Answers the cases of a sphere, and says whether it is one; so with the other shapes.
-fn print_sphere(kind: &[u8], numbers: &[f64; NUMBERS], count: usize) -> bool {
+fn print_sphere(rt: &impl Print, kind: &[u8], numbers: &[f64; NUMBERS], count: usize) -> bool {
     if (count == 10) & lexer::same(kind, b"sphere") {
-        print_hit(hits::sphere_hit_above(ray(numbers), sphere(numbers), 0.0));
+        print_hit(
+            rt,
+            hits::sphere_hit_above(ray(numbers), sphere(numbers), 0.0),
+        );
         return true;
     }
     if (count == 11) & lexer::same(kind, b"sphere_above") {
         let least = numbers[10];
-        print_hit(hits::sphere_hit_above(ray(numbers), sphere(numbers), least));
+        print_hit(
+            rt,
+            hits::sphere_hit_above(ray(numbers), sphere(numbers), least),
+        );
         return true;
     }
     if (count == 10) & lexer::same(kind, b"sphere_default") {
-        print_hit(hits::sphere_hit(ray(numbers), sphere(numbers)));
+        print_hit(rt, hits::sphere_hit(ray(numbers), sphere(numbers)));
         return true;
     }
     false
 }
 
-fn print_ring(kind: &[u8], numbers: &[f64; NUMBERS], count: usize) -> bool {
+fn print_ring(rt: &impl Print, kind: &[u8], numbers: &[f64; NUMBERS], count: usize) -> bool {
     if (count == 14) & lexer::same(kind, b"ring") {
-        print_hit(hits::ring_hit_above(ray(numbers), ring(numbers), 0.0));
+        print_hit(rt, hits::ring_hit_above(ray(numbers), ring(numbers), 0.0));
         return true;
     }
     if (count == 15) & lexer::same(kind, b"ring_above") {
         let least = numbers[14];
-        print_hit(hits::ring_hit_above(ray(numbers), ring(numbers), least));
+        print_hit(rt, hits::ring_hit_above(ray(numbers), ring(numbers), least));
         return true;
     }
     if (count == 14) & lexer::same(kind, b"ring_default") {
-        print_hit(hits::ring_hit(ray(numbers), ring(numbers)));
+        print_hit(rt, hits::ring_hit(ray(numbers), ring(numbers)));
         return true;
     }
     false
@@ -200,7 +204,7 @@ fn corners<'a>(numbers: &'a [f64; NUMBERS], end: usize) -> &'a [f64]
     &all[6..end]
 }
 
-fn print_polygon(kind: &[u8], numbers: &[f64; NUMBERS], count: usize) -> bool {
+fn print_polygon(rt: &impl Print, kind: &[u8], numbers: &[f64; NUMBERS], count: usize) -> bool {
     if count < 6 {
         return false;
     }
@@ -208,17 +212,23 @@ fn print_polygon(kind: &[u8], numbers: &[f64; NUMBERS], count: usize) -> bool {
         return false;
     }
     if lexer::same(kind, b"polygon") {
-        print_hit(polygon::polygon_hit_above(ray(numbers), corners(numbers, count), 0.0));
+        print_hit(
+            rt,
+            polygon::polygon_hit_above(ray(numbers), corners(numbers, count), 0.0),
+        );
         return true;
     }
     if lexer::same(kind, b"polygon_default") {
-        print_hit(polygon::polygon_hit(ray(numbers), corners(numbers, count)));
+        print_hit(
+            rt,
+            polygon::polygon_hit(ray(numbers), corners(numbers, count)),
+        );
         return true;
     }
-    print_polygon_above(kind, numbers, count)
+    print_polygon_above(rt, kind, numbers, count)
 }
 
-fn print_polygon_above(kind: &[u8], numbers: &[f64; NUMBERS], count: usize) -> bool
+fn print_polygon_above(rt: &impl Print, kind: &[u8], numbers: &[f64; NUMBERS], count: usize) -> bool
     requires le_count { 6 ≤ count }
     requires count_bound { count ≤ 127 }
 {
@@ -227,89 +237,92 @@ fn print_polygon_above(kind: &[u8], numbers: &[f64; NUMBERS], count: usize) -> b
     }
     if lexer::same(kind, b"polygon_above") {
         let least = numbers[count - 1];
-        print_hit(polygon::polygon_hit_above(ray(numbers), corners(numbers, count - 1), least));
+        print_hit(
+            rt,
+            polygon::polygon_hit_above(ray(numbers), corners(numbers, count - 1), least),
+        );
         return true;
     }
     false
 }
 
-fn print_shape(kind: &[u8], numbers: &[f64; NUMBERS], count: usize) -> bool {
-    if print_sphere(kind, numbers, count) {
+fn print_shape(rt: &impl Print, kind: &[u8], numbers: &[f64; NUMBERS], count: usize) -> bool {
+    if print_sphere(rt, kind, numbers, count) {
         return true;
     }
-    if print_ring(kind, numbers, count) {
+    if print_ring(rt, kind, numbers, count) {
         return true;
     }
-    print_polygon(kind, numbers, count)
+    print_polygon(rt, kind, numbers, count)
 }
 
-fn print_factors(factors: Interreflection) {
+fn print_factors(rt: &impl Print, factors: Interreflection) {
     match factors {
         Interreflection::Both(through, back) => {
-            print(b"factors");
-            print_double(through);
-            print_double(back);
+            print(rt, b"factors");
+            print_double(rt, through);
+            print_double(rt, back);
         }
-        Interreflection::Refused(reason) => print_refusal(reason),
+        Interreflection::Refused(reason) => print_refusal(rt, reason),
     }
 }
 
-fn print_transmitted(transmitted: Transmitted) {
+fn print_transmitted(rt: &impl Print, transmitted: Transmitted) {
     match transmitted {
         Transmitted::Transmissivity(t) => {
-            print(b"transmissivity");
-            print_double(t);
+            print(rt, b"transmissivity");
+            print_double(rt, t);
         }
-        Transmitted::Refused(reason) => print_refusal(reason),
+        Transmitted::Refused(reason) => print_refusal(rt, reason),
     }
 }
 
 // Answers whether the kind is one of a pane of glass.
-fn print_pane(kind: &[u8], numbers: &[f64; NUMBERS], count: usize) -> bool {
+fn print_pane(rt: &impl Print, kind: &[u8], numbers: &[f64; NUMBERS], count: usize) -> bool {
     if (count == 3) & lexer::same(kind, b"factors") {
-        print_factors(pane::factors(numbers[0], numbers[1], numbers[2]));
+        print_factors(rt, pane::factors(numbers[0], numbers[1], numbers[2]));
         return true;
     }
     if (count == 1) & lexer::same(kind, b"transmissivity") {
-        print_transmitted(pane::transmissivity(numbers[0]));
+        print_transmitted(rt, pane::transmissivity(numbers[0]));
         return true;
     }
     false
 }
 
-fn print_answer(kind: &[u8], numbers: &[f64; NUMBERS], count: usize) {
+fn print_answer(rt: &impl Print, kind: &[u8], numbers: &[f64; NUMBERS], count: usize) {
     if (count == 3) & lexer::same(kind, b"fresnel") {
-        print_reflection(fresnel::fresnel(numbers[0], numbers[1], numbers[2]));
+        print_reflection(rt, fresnel::fresnel(numbers[0], numbers[1], numbers[2]));
     } else if (count == 1) & lexer::same(kind, b"root") {
-        print(b"root");
-        print_double(root::root(numbers[0]));
-    } else if !(print_pane(kind, numbers, count) || print_shape(kind, numbers, count)) {
-        print(b"bad");
+        print(rt, b"root");
+        print_double(rt, root::root(numbers[0]));
+    } else if !(print_pane(rt, kind, numbers, count) || print_shape(rt, kind, numbers, count)) {
+        print(rt, b"bad");
     }
-    print(b"\n");
+    print(rt, b"\n");
 }
 
-fn answer(line: &[u8]) {
+fn answer(rt: &impl Print, line: &[u8]) {
     let kind = lexer::next_word(line, 0);
     let mut numbers = [0.0f64; NUMBERS];
     let count = read_numbers(line, lexer::word_end(line, kind.place), &mut numbers);
-    print_answer(lexer::part(line, kind.place, kind.len), &numbers, count);
+    print_answer(rt, lexer::part(line, kind.place, kind.len), &numbers, count);
 }
 
 // Answers the first `len` bytes of a line; the line was too long where there are fewer.
-fn answer_line(line: &[u8], len: usize) {
+fn answer_line(rt: &impl Print, line: &[u8], len: usize) {
     if len <= line.len() {
-        answer(&line[..len]);
+        answer(rt, &line[..len]);
     } else {
-        print(b"bad\n");
+        print(rt, b"bad\n");
     }
 }
 
 // Puts a byte after the `len` bytes of a line, as far as there is room, and answers the line where the byte ends it. The
 // line's new length is one above the room where it is too long.
-fn take_byte(line: &mut [u8; LINE], len: usize, b: u8) -> usize {
+fn take_byte(rt: &impl Print, line: &mut [u8; LINE], len: usize, b: u8) -> usize {
     if b == b'\n' {
-        answer_line(line, len);
+        answer_line(rt, line, len);
         return 0;
     }
     if len < LINE {
@@ -319,41 +332,38 @@ fn take_byte(line: &mut [u8; LINE], len: usize, b: u8) -> usize {
     LINE + 1
 }
 
-fn take_bytes(line: &mut [u8; LINE], start: usize, bytes: &[u8]) -> usize {
+fn take_bytes(rt: &impl Print, line: &mut [u8; LINE], start: usize, bytes: &[u8]) -> usize {
     let mut len = start;
-    let mut i = 0;
-    while i < bytes.len() {
-        len = take_byte(line, len, bytes[i]);
-        i += 1;
+    for b in bytes {
+        len = take_byte(rt, line, len, *b);
     }
     len
 }
 
 // The last line may have no end of its own. The end has to be seen: cases that a failed read cut short are not all.
-fn answer_rest(line: &mut [u8; LINE], len: usize) {
+fn answer_rest(rt: &impl Print, from: &mut impl Read, line: &mut [u8; LINE], len: usize) {
     let mut more = [0u8; 1];
-    if libc::read(STDIN_FILENO, &mut more) != 0 {
-        print(b"unreadable\n");
+    if !matches!(from.read(&mut more), Ok(0)) {
+        print(rt, b"unreadable\n");
         return;
     }
     if 0 < len {
-        take_byte(line, len, b'\n');
+        take_byte(rt, line, len, b'\n');
     }
 }
 
 // A loop has to end: 65,536 buffers are 4 GiB.
-fn main() {
-    let mut buffer = io::large_buffer();
+fn main(rt: HostRuntime) {
+    let mut from = rt.reader();
+    let mut buffer = [0u8; 65536];
     let mut line = [0u8; LINE];
     let mut len = 0;
-    let mut turn: u32 = 0;
-    while turn < 65536 {
-        let n = io::read_full(STDIN_FILENO, &mut buffer);
-        len = take_bytes(&mut line, len, &buffer[..n]);
+    for _ in 0..65536 {
+        let n = input::read_full(&mut from, &mut buffer);
+        len = take_bytes(&rt, &mut line, len, &buffer[..n]);
         if n < buffer.len() {
             break;
         }
-        turn += 1;
     }
-    answer_rest(&mut line, len);
+    answer_rest(&rt, &mut from, &mut line, len);
 }

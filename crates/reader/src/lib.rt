@@ -1,4 +1,6 @@
 // The scene reader: with a lent pair table, with a lent index too, and with both of its own.
+#![tactic(auto)]
+
 ghost use Rattle.std.specs.Prelude.{◌≡◌};
 ghost use Rattle.reader.specs.Answer.{Reads};
 ghost use Rattle.reader.specs.Indexed.{ReadsIndexed, answered_short};
@@ -8,14 +10,14 @@ use driver::End;
 use scene::Mode;
 
 // Accepted with the counts of primitives and reals, or refused with reason and place.
-#[derive(Drop)]
+#[derive(Clone, Copy)]
 pub enum Answer {
     Accepted(usize, usize),
     Refused(u32, usize),
 }
 
 // An answer, and how many entries of the index were looked at for it.
-#[derive(Drop)]
+#[derive(Clone, Copy)]
 pub struct Indexed {
     pub answer: Answer,
     pub looked: u32,

@@ -1,4 +1,6 @@
 // The tidy text of records, put into a lent output.
+#![tactic(auto)]
+
 ghost use Rattle.std.specs.Prelude.{cond, false, [], ◌∷◌, ◌++◌, ◌≡◌, eqb};
 ghost use Rattle.lines.specs.Puts.{Puts};
 ghost use Rattle.scene.specs.Record.{name_in};

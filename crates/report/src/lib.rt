@@ -1,5 +1,7 @@
 // What the comparison of two saves comes to, on standard output: a line for each key that only one save has, or that was
 // changed; or one line for a save that is refused or cannot be read. Each function answers whether all of it was written.
+#![tactic(auto)]
+
 use comparison::{Place, State};
 use ordered::{Cursors, Next};
 use pair::Side;
@@ -11,28 +13,36 @@ const KEYS: usize = 2 * MOST_RECORDS;
 // Enough for any line. The longest is a key's: a name of 64 bytes, a number of 20 digits at most, and 25 more.
 const LINE: usize = 128;
 
-pub fn print_refusal(side: Side, reason: u32, place: usize) -> bool {
+pub fn print_refusal(rt: &(impl Print + Eprint), side: Side, reason: u32, place: usize) -> bool {
     let mut line = [0u8; LINE];
     let n = save_lines::refusal_line(&mut line, side, reason, place);
-    output::print(lexer::part(&line, 0, n))
+    output::print(rt, lexer::part(&line, 0, n))
 }
 
-pub fn print_unreadable(side: Side) -> bool {
+pub fn print_unreadable(rt: &(impl Print + Eprint), side: Side) -> bool {
     let mut line = [0u8; LINE];
     let n = save_lines::unreadable_line(&mut line, side);
-    output::print(lexer::part(&line, 0, n))
+    output::print(rt, lexer::part(&line, 0, n))
 }
 
 // The line of a key, which a primitive of this text has.
-fn print_line(text: &[u8], records: &[u32], number: usize, nth: usize, state: State) -> bool {
+fn print_line(
+    rt: &(impl Print + Eprint),
+    text: &[u8],
+    records: &[u32],
+    number: usize,
+    nth: usize,
+    state: State,
+) -> bool {
     let name = finish::name(text, records, records.len() / WIDTH, number);
     let mut line = [0u8; LINE];
     let n = save_lines::key_line(&mut line, name, nth, state);
-    output::print(lexer::part(&line, 0, n))
+    output::print(rt, lexer::part(&line, 0, n))
 }
 
 // Prints the lines one by one, along an order of each scene's names.
 pub fn print_lines(
+    rt: &(impl Print + Eprint),
     left: &[u8],
     left_records: &[u32],
     left_reals: &[f64],
@@ -61,8 +71,8 @@ pub fn print_lines(
             }
             Next::Line(at, place, nth, state) => {
                 let written = match place {
-                    Place::Left(n) => print_line(left, left_records, n, nth, state),
-                    Place::Right(n) => print_line(right, right_records, n, nth, state),
+                    Place::Left(n) => print_line(rt, left, left_records, n, nth, state),
+                    Place::Right(n) => print_line(rt, right, right_records, n, nth, state),
                 };
                 if !written {
                     return false;

@@ -1,5 +1,7 @@
 // The sides of mixtures. Their names may be defined below them, so they are looked up when all of a text is read, and stored in a lent
 // table of pairs.
+#![tactic(auto)]
+
 ghost use Rattle.std.specs.Prelude.{◌≡◌};
 ghost use Rattle.resolver.specs.Code.{PutsPair, Resolves, Sides, side_at};
 
@@ -7,7 +9,7 @@ use kinds::MIXFUNC;
 use table::{KIND, STRING};
 
 // No mixture among the records, or each side known, or the place of the first that is not.
-#[derive(Drop)]
+#[derive(Clone, Copy)]
 pub enum Resolved {
     Plain,
     Known,
@@ -15,7 +17,7 @@ pub enum Resolved {
 }
 
 // What a side's name leads to, 0 for `void`, and whether it is known.
-#[derive(Drop)]
+#[derive(Clone, Copy)]
 pub struct Side {
     pub number: u32,
     pub known: bool,

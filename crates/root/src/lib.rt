@@ -1,4 +1,6 @@
 // The root of a double from its bit pattern, one binary digit at a time, by shifts, sums and differences of whole numbers.
+#![tactic(auto)]
+
 ghost use Rattle.std.specs.Prelude.{cond, false, ◌≡◌, ◌+◌, ◌*◌, ◌^◌, ◌<◌, ◌≤◌, T, leb};
 ghost use Rattle.std.specs.Float.Ieee.{odd};
 ghost use Rattle.std.specs.Float.Ieee.Positive.{positive};
@@ -6,7 +8,7 @@ ghost use Rattle.root.specs.Digits.{Found, OneMore};
 ghost use Rattle.root.specs.Root.{root_of, root_units, whole_root};
 
 // The root's digits so far and how many they are, what is left of the digits brought down, and those still to bring down.
-#[derive(Drop)]
+#[derive(Clone, Copy)]
 struct Digits {
     root: u64,
     found: u64,
@@ -63,7 +65,7 @@ fn find_digits(number: u64) -> Digits
 }
 
 // A number as digits * 2 ^ power.
-#[derive(Drop)]
+#[derive(Clone, Copy)]
 struct Scaled {
     digits: u64,
     power: u64,

@@ -1,1 +1,2 @@
 // Worked examples of the definitions. No function.
+#![tactic(auto)]

@@ -1,5 +1,7 @@
 // The lines that a comparison of two saves prints, put into a lent buffer: as much of each as the buffer holds. Each function
 // answers how many bytes that is.
+#![tactic(auto)]
+
 ghost use Rattle.std.specs.Prelude.{◌≡◌, min, length};
 ghost use Rattle.buffer.specs.Put.{put, behind};
 ghost use Rattle.save_lines.specs.Lines.{key_line, refusal_line, scene_field, state_field, unreadable_line};

@@ -1,4 +1,6 @@
 // The materials that a primitive may show, in a lent list. The tables may hold anything.
+#![tactic(auto)]
+
 ghost use Rattle.std.specs.Prelude.{◌≡◌, ◌+◌, ◌-◌, ◌≤◌, ◌<◌, length, set};
 ghost use Rattle.graph.specs.Answers.{shown_in, those};
 ghost use Rattle.graph.specs.Graph.{graph_of};
@@ -10,7 +12,7 @@ use kinds::MIXFUNC;
 use table::{KIND, MODIFIER, MOST_RECORDS};
 
 // How many materials are listed, or a refusal's number.
-#[derive(Drop)]
+#[derive(Clone, Copy)]
 pub enum Shown {
     Listed(usize),
     Refused(u32),

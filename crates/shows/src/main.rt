@@ -1,9 +1,12 @@
 // Shows the materials that each surface of scene texts may show: of the files that the arguments name, or of standard input
 // where there are none.
+#![tactic(auto)]
+
 use input::Loaded;
 use reader::Answer;
 use scene::Mode;
 use shown::Shown;
+use std::rt::Runtime;
 use table::MOST_RECORDS;
 
 // Enough for any line: 1,024 numbers of 4 digits at most with commas, one of 20 digits, a name of 64, and 17 more.
@@ -16,7 +19,14 @@ fn first_numbers<'a>(list: &'a [u32], n: usize) -> &'a [u32] {
 }
 
 // The line of a surface; nothing for other types. The list has room for every primitive that a reading stores.
-fn print_shown(text: &[u8], records: &[u32], pairs: &[u32], count: usize, number: usize) -> bool {
+fn print_shown(
+    rt: &(impl Print + Eprint),
+    text: &[u8],
+    records: &[u32],
+    pairs: &[u32],
+    count: usize,
+    number: usize,
+) -> bool {
     let kind = table::field(records, number, table::KIND);
     if !kinds::is_surface(kind) {
         return true;
@@ -27,17 +37,21 @@ fn print_shown(text: &[u8], records: &[u32], pairs: &[u32], count: usize, number
             let mut line = [0u8; LINE];
             let lent = first_numbers(&list, many);
             let n = shown_listing::shown_line(&mut line, text, records, number, lent);
-            output::print(lexer::part(&line, 0, n))
+            output::print(rt, lexer::part(&line, 0, n))
         }
-        Shown::Refused(reason) => output::print_refusal(reason, 0, 0),
+        Shown::Refused(reason) => output::print_refusal(rt, reason, 0, 0),
     }
 }
 
-fn print_surfaces(text: &[u8], records: &[u32], pairs: &[u32], count: usize) -> bool {
-    let mut n = 0;
-    while n < count {
-        n += 1;
-        if !print_shown(text, records, pairs, count, n) {
+fn print_surfaces(
+    rt: &(impl Print + Eprint),
+    text: &[u8],
+    records: &[u32],
+    pairs: &[u32],
+    count: usize,
+) -> bool {
+    for n in 1..=count {
+        if !print_shown(rt, text, records, pairs, count, n) {
             return false;
         }
     }
@@ -45,7 +59,7 @@ fn print_surfaces(text: &[u8], records: &[u32], pairs: &[u32], count: usize) -> 
 }
 
 // The lines of a text's surfaces, or its refusal.
-fn show(mode: Mode, text: &[u8]) -> bool {
+fn show(rt: &(impl Print + Eprint), mode: Mode, text: &[u8]) -> bool {
     let mut records = [0u32; table::MOST_NUMBERS];
     let mut reals = [0.0f64; table::MOST_REALS];
     let mut pairs = [0u32; 2 * MOST_RECORDS];
@@ -53,38 +67,36 @@ fn show(mode: Mode, text: &[u8]) -> bool {
     let r = reader::read_indexed(mode, text, &mut records, &mut reals, &mut pairs, &mut index);
     let answer = r.answer;
     match answer {
-        Answer::Accepted(primitives, _) => print_surfaces(text, &records, &pairs, primitives),
+        Answer::Accepted(primitives, _) => print_surfaces(rt, text, &records, &pairs, primitives),
         Answer::Refused(reason, place) => {
-            output::print_refusal(reason, place, line_numbers::line_at(text, place))
+            output::print_refusal(rt, reason, place, line_numbers::line_at(text, place))
         }
     }
 }
 
 // Answers whether to go on with the next text: not after a failed write.
-fn show_text(mode: Mode, number: usize) -> bool {
+fn show_text(rt: &impl Runtime, mode: Mode, number: usize) -> bool {
     let mut text = [0u8; table::MOST_BYTES];
-    match input::load(number, &mut text) {
-        Loaded::Text(n) => input::print_heading(number) && show(mode, lexer::part(&text, 0, n)),
-        Loaded::TooLong => input::print_heading(number) && output::print_refusal(1, 0, 1),
-        Loaded::Unreadable => input::print_unreadable(number),
+    match input::load(rt, number, &mut text) {
+        Loaded::Text(n) => input::print_heading(rt, number)
+            && show(rt, mode, lexer::part(&text, 0, n)),
+        Loaded::TooLong => input::print_heading(rt, number) && output::print_refusal(rt, 1, 0, 1),
+        Loaded::Unreadable => input::print_unreadable(rt, number),
     }
 }
 
-fn show_all(mode: Mode) {
-    let end = input::end();
-    let mut number = input::first();
-    while number < end {
-        if !show_text(mode, number) {
+fn show_all(rt: &impl Runtime, mode: Mode) {
+    for number in input::first(rt)..input::end(rt) {
+        if !show_text(rt, mode, number) {
             return;
         }
-        number += 1;
     }
 }
 
-fn main() {
-    if input::has_unknown_option() {
-        output::print(b"usage: shows [--archive] [FILE..]\n");
+fn main(rt: HostRuntime) {
+    if input::has_unknown_option(&rt) {
+        output::print(&rt, b"usage: shows [--archive] [FILE..]\n");
         return;
     }
-    show_all(input::mode());
+    show_all(&rt, input::mode(&rt));
 }

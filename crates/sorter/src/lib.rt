@@ -1,4 +1,6 @@
 // A scene sorted: its statements grouped by type, each with the comments above it.
+#![tactic(auto)]
+
 ghost use Rattle.std.specs.Prelude.{length};
 ghost use Rattle.block_text.specs.BlockText.{WritesBlocks};
 ghost use Rattle.sorter.specs.Answer.{Sorts};

@@ -1,4 +1,6 @@
 // The open statement, handed on by value, and the steps of the words that begin it and of an alias's target.
+#![tactic(auto)]
+
 ghost use Rattle.std.specs.Prelude.{◌≡◌};
 ghost use Rattle.statement.specs.Heads.{going_to, kind_step, modifier_step, name_step, target_step, with_name, with_target};
 ghost use Rattle.statement.specs.States.{between, clipped, counted_in, is_idle, moved_to, opened, opening_of};
@@ -6,7 +8,7 @@ ghost use Rattle.statement.specs.States.{between, clipped, counted_in, is_idle, 
 use scene::Mode;
 
 // What the next word is.
-#[derive(Drop)]
+#[derive(Clone, Copy)]
 pub enum Phase {
     Idle,
     Kind,
@@ -23,7 +25,7 @@ pub enum Phase {
 
 // The record of the open statement, as far as it has been read. Its parts are in the order in which copies of it were measured to be
 // fastest.
-#[derive(Drop)]
+#[derive(Clone, Copy)]
 pub struct Draft {
     pub name: u32,
     pub size: u32,
@@ -38,7 +40,7 @@ pub struct Draft {
 
 // Where reading has come to: records and reals stored, words of this kind left after the next, the open statement, entries of the
 // index looked at.
-#[derive(Drop)]
+#[derive(Clone, Copy)]
 pub struct State {
     pub at: usize,
     pub count: usize,
@@ -51,7 +53,7 @@ pub struct State {
 
 // What a word's step looks at beside the word: its place and length, reals stored, the record that its name leads to, how many
 // entries of the index were looked at for it, and the two reals before.
-#[derive(Drop)]
+#[derive(Clone, Copy)]
 pub struct Seen {
     pub place: usize,
     pub name: u32,
@@ -66,7 +68,7 @@ pub struct Seen {
 
 // What a word comes to: the statement goes on, with a real to store or none; it is complete, with a last real or none; or the
 // text is refused. `Ended` is no word's: the text ends between two statements. The state stands first, so at one place in each.
-#[derive(Drop)]
+#[derive(Clone, Copy)]
 pub enum Step {
     Going(State),
     Real(State, f64),
@@ -77,7 +79,7 @@ pub enum Step {
 }
 
 // What a byte opens that is no blank.
-#[derive(Drop)]
+#[derive(Clone, Copy)]
 pub enum Opening {
     Comment,
     Command,

@@ -1,10 +1,12 @@
 // Steps in f64 that have to be finite: one that is not is NaN, and so is all that uses it.
+#![tactic(auto)]
+
 ghost use Rattle.std.specs.Prelude.{◌≡◌};
 ghost use Rattle.std.specs.Float.Ieee.Scale.{finite};
 ghost use Rattle.steps.specs.Step.{step};
 ghost use Rattle.steps.specs.Vectors.{along, dot, finite_vector, minus};
 
-#[derive(Drop)]
+#[derive(Clone, Copy)]
 pub struct Vector {
     pub x: f64,
     pub y: f64,

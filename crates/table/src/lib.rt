@@ -1,4 +1,6 @@
 // The record's layout, and what every user of a table of records does with one. A table may hold anything.
+#![tactic(auto)]
+
 ghost use Rattle.std.specs.Prelude.{◌≡◌, ◌*◌, ◌/◌, min, get_or, length, replicate, take};
 ghost use Rattle.scene.specs.HouseRules.{zero_real};
 ghost use Rattle.scene.specs.Record.{field_in, name_in, record_in, settings_for, width};

@@ -1,4 +1,6 @@
 // Where a ray hits a polygon of a finished table. The tables may hold anything.
+#![tactic(auto)]
+
 ghost use Rattle.std.specs.Prelude.{◌≡◌};
 ghost use Rattle.hits.specs.Ahead.{default_least};
 ghost use Rattle.hits.specs.Outcome.{outcome_of};

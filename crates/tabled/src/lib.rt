@@ -1,1 +1,2 @@
 // A table filled by a rule, one number after the other: definitions and laws, no function.
+#![tactic(auto)]

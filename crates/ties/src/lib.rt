@@ -1,4 +1,6 @@
 // Which records of a table are bound by names, and which keep their order when a scene is sorted. Tables may hold anything.
+#![tactic(auto)]
+
 ghost use Rattle.std.specs.Prelude.{◌≡◌, length};
 ghost use Rattle.ties.specs.Ties.{bound_rows, class_of, classes_to, gives_in, gives_to, held_rows, refers_in};
 

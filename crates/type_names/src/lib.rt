@@ -1,4 +1,6 @@
 // The names of the 25 types, and their numbers.
+#![tactic(auto)]
+
 ghost use Rattle.std.specs.Prelude.{◌≡◌, ◌*◌, ◌≤◌, ◌<◌, length};
 ghost use Rattle.laws.specs.Bytes.{part};
 ghost use Rattle.scene.specs.Types.{type_name, type_number};
@@ -6,7 +8,7 @@ ghost use Rattle.type_names.specs.Names.{padded};
 ghost use Rattle.type_names.specs.Rows.{names, row_number, unpacked};
 
 // A name: ten bytes, and how many of them, from the first on, are its own.
-#[derive(Drop)]
+#[derive(Clone, Copy)]
 pub struct Name(pub [u8; 10], pub usize);
 
 // The names one behind the other, with blanks behind each to ten bytes, and how many bytes are each name's own. A table of

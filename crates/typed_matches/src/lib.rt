@@ -1,5 +1,7 @@
 // Whether a typed scene holds an order of two hands' records and no more, by the matches of both hands' records in it. Both hands are
 // numbered together, right's records first, then left's.
+#![tactic(auto)]
+
 ghost use Rattle.std.specs.Prelude.{◌≡◌, length};
 ghost use Rattle.arranging.specs.Both.{either};
 ghost use Rattle.join_meaning.specs.Written.{all_equal};

@@ -1,4 +1,6 @@
 // The mixtures of a text that is read: their sides are looked up, and a side that is not known or a loop is refused.
+#![tactic(auto)]
+
 ghost use Rattle.std.specs.Prelude.{◌≡◌, length};
 ghost use Rattle.validation.specs.Validated.{Loops, Validates};
 
@@ -6,7 +8,7 @@ use resolver::Resolved;
 use table::{MOST_RECORDS, NAME};
 
 // Every mixture is in order, or one is refused with reason and place.
-#[derive(Drop)]
+#[derive(Clone, Copy)]
 pub enum Validity {
     Valid,
     Refused(u32, usize),

@@ -1,12 +1,14 @@
 // A word reader over a lent text. It knows blanks only: a comment's words are words like any other. Proofs about a struct
 // that holds a reference are by hand, so each function is thin, and the work is done in crate `lexer`.
+#![tactic(auto)]
+
 ghost use Rattle.std.specs.Prelude.{◌≡◌};
 ghost use Rattle.lexer.specs.Word.{word_at, word_bytes, word_end};
 
 use lexer::Word;
 
 // The lent text, and the place from which on the next word is looked for.
-#[derive(Drop)]
+#[derive(Clone, Copy)]
 pub struct WordReader<'a> {
     pub text: &'a [u8],
     pub at: usize,

@@ -1,4 +1,6 @@
 // What stands next in a text, gone over once: a word, a count, a numeral or a comment, with the lines that end on the way.
+#![tactic(auto)]
+
 ghost use Rattle.std.specs.Prelude.{false, true, ◌≡◌, ◌+◌};
 ghost use Rattle.laws.specs.Runs.{past};
 ghost use Rattle.lexer.specs.Class.{is_blank};
@@ -8,7 +10,7 @@ ghost use Rattle.word_scan.specs.Passing.{PassesComment, PassesCount, PassesReal
 use numeral::Count;
 
 // The place behind blanks, and how many lines end before it.
-#[derive(Drop)]
+#[derive(Clone, Copy)]
 struct Gap {
     place: usize,
     lines: usize,
@@ -16,7 +18,7 @@ struct Gap {
 
 // A good word: its place and length, the place behind the byte that ends it, and how many lines end before the word and before that
 // place. Nothing is said of another word.
-#[derive(Drop)]
+#[derive(Clone, Copy)]
 pub struct Passed {
     pub good: bool,
     pub place: usize,
@@ -27,7 +29,7 @@ pub struct Passed {
 }
 
 // A count that is a good word: its value, the place behind the byte that ends it, and how many lines end before that place.
-#[derive(Drop)]
+#[derive(Clone, Copy)]
 pub struct Counted {
     pub good: bool,
     pub value: u32,
@@ -36,7 +38,7 @@ pub struct Counted {
 }
 
 // A numeral that is a good word, in the same way.
-#[derive(Drop)]
+#[derive(Clone, Copy)]
 pub struct Valued {
     pub good: bool,
     pub value: f64,
@@ -45,7 +47,7 @@ pub struct Valued {
 }
 
 // A comment where a statement may begin: the place behind its line, and how many lines end before that place.
-#[derive(Drop)]
+#[derive(Clone, Copy)]
 pub struct Skipped {
     pub good: bool,
     pub next: usize,

@@ -1,40 +1,42 @@
 // Each word of standard input with its place in bytes, a line each. It knows blanks only: a comment's words are words too.
-use input::Loaded;
-use libc::STDOUT_FILENO;
+#![tactic(auto)]
 
-fn print_word(place: usize, word: &[u8]) -> bool {
-    output::noticed(
-        io::write_all(STDOUT_FILENO, b"place=")
-            && io::print_decimal(STDOUT_FILENO, place as u64)
-            && io::write_all(STDOUT_FILENO, b" word=")
-            && io::write_all(STDOUT_FILENO, word)
-            && io::write_all(STDOUT_FILENO, b"\n"),
-    )
+use input::Loaded;
+use std::io;
+
+fn write_word(rt: &impl Print, place: usize, word: &[u8]) -> io::Result<()> {
+    print!(rt; "place={place} word=")?;
+    rt.write_all(word)?;
+    rt.write_all(b"\n")
 }
 
-fn print_words(text: &[u8]) {
+fn print_word(rt: &(impl Print + Eprint), place: usize, word: &[u8]) -> bool {
+    output::noticed(rt, write_word(rt, place, word))
+}
+
+fn print_words(rt: &(impl Print + Eprint), text: &[u8]) {
     let mut at = 0;
     loop {
         let word = word_reader::next_from(text, at);
         if word.len == 0 {
             return;
         }
-        if !print_word(word.place, lexer::part(text, word.place, word.len)) {
+        if !print_word(rt, word.place, lexer::part(text, word.place, word.len)) {
             return;
         }
         at = word.place + word.len;
     }
 }
 
-fn main() {
+fn main(rt: HostRuntime) {
     let mut text = [0u8; table::MOST_BYTES];
-    match input::load_standard(&mut text) {
-        Loaded::Text(n) => print_words(lexer::part(&text, 0, n)),
+    match input::load_standard(&rt, &mut text) {
+        Loaded::Text(n) => print_words(&rt, lexer::part(&text, 0, n)),
         Loaded::TooLong => {
-            output::print_refusal(1, 0, 0);
+            output::print_refusal(&rt, 1, 0, 0);
         }
         Loaded::Unreadable => {
-            output::print(b"unreadable\n");
+            output::print(&rt, b"unreadable\n");
         }
     }
 }

@@ -1,4 +1,6 @@
 // A scene written out, tidy.
+#![tactic(auto)]
+
 ghost use Rattle.std.specs.Prelude.{◌++◌, ◌≡◌, ◌-◌, length, replicate, take};
 ghost use Rattle.writer.specs.Answer.{Writes};
 
@@ -6,7 +8,7 @@ use fresh::Fresh;
 use scene::Mode;
 
 // The tidy text's length, or a refusal's reason and place.
-#[derive(Drop)]
+#[derive(Clone, Copy)]
 pub enum Answer {
     Written(usize),
     Refused(u32, usize),

@@ -31,6 +31,10 @@ insert_increasing k (x ∷ ks) h = go (before k x) (same_key k x) (before x k) (
     go : (c d e : Bool) → OneOf c d e → before k x ≡ c → before x k ≡ e → Increasing (insert k ks) → Increasing (cond c (k ∷ x ∷ ks) (cond d (x ∷ ks) (x ∷ insert k ks)))
     go true false false first p q ih = (p, h)
     go false true false second p q ih = h
+    go false false false x14 p q ih = elim x14 [ ]
+    go false true true x15 p q ih = elim x15 [ ]
+    go true false true x15 p q ih = elim x15 [ ]
+    go true true e x12 p q ih = elim x12 [ ]
     go false false true third p q ih = (ahead_insert x k ks h.0 q, ih)
 
 all_increasing : (d : List Told) (ks : List Key) → Increasing ks → Increasing (insert_all d ks)
@@ -83,6 +87,10 @@ ahead_absent k (x ∷ ks) a h = go (before k x) (same_key k x) (before x k) (bef
     go : (b c d : Bool) → OneOf b c d → b ≡ true → stands_in k ks ≡ false → (c || stands_in k ks) ≡ false
     go true false false first p ih = ih
     go false true false second p ih = absurd (false≢true p)
+    go false false false x12 p ih = elim x12 [ ]
+    go false true true x13 p ih = elim x13 [ ]
+    go true false true x13 p ih = elim x13 [ ]
+    go true true d x11 p ih = elim x11 [ ]
     go false false true third p ih = absurd (false≢true p)
 
 -- two increasing lists in which the same keys stand are equal
@@ -109,6 +117,10 @@ increasing_same (x ∷ ks) (y ∷ js) h g e = go (before x y) (same_key x y) (be
     go : (b c d : Bool) → OneOf b c d → before x y ≡ b → same_key x y ≡ c → before y x ≡ d → (((k : Key) → stands_in k ks ≡ stands_in k js) → ks ≡ js) → x ∷ ks ≡ y ∷ js
     go true false false first p q r ih = absurd (true≢false (sym (here x ks) ∙ e x ∙ ahead_absent x (y ∷ js) p g))
     go false true false second p q r ih = λ i. same_key_lem x y q i ∷ ih (rest (same_key_lem x y q)) i
+    go false false false x19 p q r ih = elim x19 [ ]
+    go false true true x20 p q r ih = elim x20 [ ]
+    go true false true x20 p q r ih = elim x20 [ ]
+    go true true d x16 p q r ih = elim x16 [ ]
     go false false true third p q r ih = absurd (true≢false (sym (here y js) ∙ sym (e y) ∙ ahead_absent y (x ∷ ks) r h))
 
 -- the keys do not depend on the side

@@ -37,6 +37,10 @@ least_lesser w c d (some v) (some u) h g = go (lower u v) (same u v) (lower v u)
     go : (x y z : Bool) → OneOf x y z → lower u v ≡ x → same u v ≡ y → lower v u ≡ z → Least w (λ v. c v + d v) (cond x (some u) (some v))
     go true false false first p q s = record { above≡ = g.above≡; there = omega (arith, g.there); least = λ x l m. omega (arith, h.least x l (lower_transitive x u v m p), g.least x l m) }
     go false true false second p q s = kept (λ x m. subst (λ (n : Bytes). lower x n ≡ true) (sym (same_eq u v q)) m)
+    go false false false x15 p q s = elim x15 [ ]
+    go false true true x16 p q s = elim x16 [ ]
+    go true false true x16 p q s = elim x16 [ ]
+    go true true z x13 p q s = elim x13 [ ]
     go false false true third p q s = kept (λ x m. lower_transitive x v u m s)
 
 least_above_lem : (w : Bytes) (t : Told) → Least w (λ v. times v (t ∷ [])) (above w t.name)

@@ -77,6 +77,10 @@ after_some ks k j h f = increasing_same (after k ks) (j ∷ after j ks) (after_i
     go : (i : Key) (a b c : Bool) → OneOf a b c → before i j ≡ a → same_key i j ≡ b → before j i ≡ c → (before k i && stands_in i ks) ≡ (same_key i j || (before j i && stands_in i ks))
     go i true false false first p q s = rw (q, s) (never i (before k i) refl p)
     go i false true false second p q s = let e = same_key_lem i j q in rw (q, ap (before k) e ∙ f.later, ap (λ (z : Key). stands_in z ks) e ∙ f.stands)
+    go i false false false x12 p q s = elim x12 [ ]
+    go i false true true x13 p q s = elim x13 [ ]
+    go i true false true x13 p q s = elim x13 [ ]
+    go i true true c x10 p q s = elim x10 [ ]
     go i false false true third p q s = rw (q, s, before_transitive k j i f.later s)
 
 after_none : (ks : List Key) (k : Key) → Increasing ks → ((i : Key) → before k i ≡ true → stands_in i ks ≡ false) → after k ks ≡ []

@@ -178,6 +178,8 @@ unruled_past (h ∷ hs) t n p l =
 
 alike : (a b : Bool) → T (beq a b) → a ≡ b
 alike true true h = refl
+alike false true h = elim h [ ]
+alike true false h = elim h [ ]
 alike false false h = refl
 
 -- the code's test

@@ -114,6 +114,10 @@ lower_through x y z e f = go (lower y z) (same y z) (lower z y) (lower_one y z) 
     go : (l b m : Bool) → OneOf l b m → lower y z ≡ l → same y z ≡ b → lower z y ≡ m → lower x z ≡ true
     go true false false first u v w = lower_transitive x y z e u
     go false true false second u v w = subst (λ (n : Bytes). lower x n ≡ true) (same_eq y z v) e
+    go false false false x13 u v w = elim x13 [ ]
+    go false true true x14 u v w = elim x14 [ ]
+    go true false true x14 u v w = elim x14 [ ]
+    go true true m x11 u v w = elim x11 [ ]
     go false false true third u v w = absurd (false≢true (sym f ∙ w))
 
 pub earlier_strict : (text : Bytes) (records : List ℕ) → Strict (earlier text records)

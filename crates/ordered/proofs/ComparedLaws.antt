@@ -83,6 +83,10 @@ module _ (l r : Scene) (L R : List Told) where
           → cond a (line_of l (on.Left m) m is.OnlyLeft ∷ lines l r o (n ∷ p)) (cond c (line_of r (on.Right n) n is.OnlyRight ∷ lines l r (m ∷ o) p) (cond (same_content (content_by l m) (content_by r n)) (lines l r o p) (line_of l (on.Left m) m is.Changed ∷ lines l r o p)))
           ≡ map (shown L R) (lines_for L R (cond a (key_by l m ∷ union (map (key_by l) o) (map (key_by r) (n ∷ p))) (cond c (key_by r n ∷ union (map (key_by l) (m ∷ o)) (map (key_by r) p)) (key_by l m ∷ union (map (key_by l) o) (map (key_by r) p)))))
       go true false false first x y z i j k = line_left (lines l r o (n ∷ p)) (later o (n ∷ p)) (i (left_gone L R (key_by l m) (map (key_by l) o) (map (key_by r) (n ∷ p)) x w)) m h.0 (left_alone L R (key_by l m) (map (key_by l) o) (map (key_by r) (n ∷ p)) x w)
+      go false false false x25 x y z i j k = elim x25 [ ]
+      go false true true x26 x y z i j k = elim x26 [ ]
+      go true false true x26 x y z i j k = elim x26 [ ]
+      go true true c x20 x y z i j k = elim x20 [ ]
       go false false true third x y z i j k = line_right (lines l r (m ∷ o) p) (later (m ∷ o) p) (j (right_gone L R (key_by r n) (map (key_by l) (m ∷ o)) (map (key_by r) p) z w)) n g.0 (right_alone L R (key_by r n) (map (key_by l) (m ∷ o)) (map (key_by r) p) z w)
       go false true false second x y z i j k =
           let q : key_by l m ≡ key_by r n = same_key_lem (key_by l m) (key_by r n) y in

@@ -39,6 +39,10 @@ union_stands x (k ∷ ks) (j ∷ js) = go (before k j) (same_key k j) (before j 
 
     go : (a b c : Bool) → OneOf a b c → same_key k j ≡ b → stands_in x (union ks (j ∷ js)) ≡ (stands_in x ks || stands_in x (j ∷ js)) → stands_in x (union (k ∷ ks) js) ≡ (stands_in x (k ∷ ks) || stands_in x js) → stands_in x (union ks js) ≡ (stands_in x ks || stands_in x js) → stands_in x (cond a (k ∷ union ks (j ∷ js)) (cond c (j ∷ union (k ∷ ks) js) (k ∷ union ks js))) ≡ (stands_in x (k ∷ ks) || stands_in x (j ∷ js))
     go true false false first e p q r = ap (λ (b : Bool). same_key x k || b) p ∙ sym (or_assoc (same_key x k) (stands_in x ks) (stands_in x (j ∷ js)))
+    go false false false x16 e p q r = elim x16 [ ]
+    go false true true x17 e p q r = elim x17 [ ]
+    go true false true x17 e p q r = elim x17 [ ]
+    go true true c x13 e p q r = elim x13 [ ]
     go false false true third e p q r = ap (λ (b : Bool). same_key x j || b) q ∙ pull (stands_in x (k ∷ ks)) (same_key x j) (stands_in x js)
     go false true false second e p q r = ap (λ (b : Bool). same_key x k || b) r ∙ twice (same_key x k) (stands_in x ks) (stands_in x js) ∙ ap (λ (i : Key). stands_in x (k ∷ ks) || (same_key x i || stands_in x js)) (same_key_lem k j e)
 
@@ -65,6 +69,10 @@ union_increasing (k ∷ ks) (j ∷ js) h g = go (before k j) (same_key k j) (bef
   where
     go : (a b c : Bool) → OneOf a b c → before k j ≡ a → same_key k j ≡ b → before j k ≡ c → Increasing (union ks (j ∷ js)) → Increasing (union (k ∷ ks) js) → Increasing (union ks js) → Increasing (cond a (k ∷ union ks (j ∷ js)) (cond c (j ∷ union (k ∷ ks) js) (k ∷ union ks js)))
     go true false false first d e f p q r = (union_ahead k ks (j ∷ js) h.0 d, p)
+    go false false false x23 d e f p q r = elim x23 [ ]
+    go false true true x24 d e f p q r = elim x24 [ ]
+    go true false true x24 d e f p q r = elim x24 [ ]
+    go true true c x18 d e f p q r = elim x18 [ ]
     go false false true third d e f p q r = (union_ahead j (k ∷ ks) js f g.0, q)
     go false true false second d e f p q r = (union_ahead k ks js h.0 (subst (λ (i : Key). Ahead i js) (sym (same_key_lem k j e)) g.0), r)
 

@@ -11,8 +11,6 @@ use borrow.Author.Tests.{eq-eqb, ne_eqb}
 use lib.Dec.{eqb}
 use lib.ListN.{length, length-append, replicate, set}
 use lib.Seq.{sets}
-use denote.Enum.Declared.{tag_of}
-use types.Run.{OneOf, miss}
 use Rattle.graph.proofs.GraphLaws.{mixture_number}
 use Rattle.graph.specs.Graph.{mixture_type}
 use Rattle.index.specs.Searches.{sought}
@@ -22,7 +20,6 @@ use Rattle.laws.proofs.NatLaws.{le_or_lt}
 use Rattle.laws.specs.Bytes.{Bytes, same}
 use Rattle.lexer.specs.Word.{word_at, word_bytes, word_end}
 use Rattle.lexer.specs.declared.Word.{Word}
-use Rattle.resolver.specs.contracts.Resolved.{the_type}
 use Rattle.resolver.specs.Code.{Resolves, Sides, chosen, first_place, is_mixture, mixture_to, pair_at, pairs_to, resolved_as, side_at, unknown_at, unknown_to}
 use Rattle.resolver.specs.declared.Resolved.{Resolved}
 use Rattle.resolver.specs.declared.Resolved.TheVariants.{Known, Plain, Unknown}
@@ -221,12 +218,12 @@ module _ (text : Bytes) (T X : List ℕ) (count : ℕ) where
                 }
 
         -- it is: the look-up goes on
-        pub goes_on : OneOf (0 ∷ 1 ∷ []) (tag_of the_type r) → UpTo pairs₀ k r after
+        pub goes_on : ((w : ℕ) → r ≡ Unknown w → ⊥) → UpTo pairs₀ k r after
         goes_on t = go (unknown_at text T X count k) refl
           where
             go : (o : Option ℕ) → unknown_at text T X count k ≡ o → UpTo pairs₀ k r after
             go none q = known_too m S q
-            go (some x) q = absurd (miss (0 ∷ 1 ∷ []) 2 tt (subst (λ (z : Resolved). OneOf (0 ∷ 1 ∷ []) (tag_of the_type z)) (S.says ∙ ap (λ (z : Option ℕ). resolved_as z true) q) t))
+            go (some x) q = absurd (t _ (S.says ∙ ap (λ (z : Option ℕ). resolved_as z true) q))
 
   -- all are looked up
   pub all_known : (pairs₀ : List ℕ) {n : ℕ} {end : Resolved} {pairs : List ℕ} → n ≡ count → UpTo pairs₀ n end pairs → Resolves text T X pairs₀ count end pairs

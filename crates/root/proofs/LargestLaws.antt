@@ -115,6 +115,8 @@ unfolding le
 negative_le n d m e = below_zero (n * up d * down e) (m * up e * down d)
 
 is_fin : (x : Float) (a c : ℕ) → HasValue x false a c → (m : ℕ) × (e : ℤ) × (x ≡ fin false m e)
+is_fin nan a c h = elim h [ ]
+is_fin (inf _) a c h = elim h [ ]
 is_fin (fin true m e) a c h = absurd (true≢false h.0)
 is_fin (fin false m e) a c h = (m, e, refl)
 
@@ -156,6 +158,8 @@ module _ (m : ℕ) (e : ℤ) (h : T (fits binary64 (fin false (suc m) e))) where
   square_ok = go R value
     where
       go : (x : Float) → HasValue x false (s * 2 ^ b) (2 ^ 1074) → SquareUpTo x (fin false (suc m) e)
+      go nan v = elim v [ ]
+      go (inf _) v = elim v [ ]
       go (fin t n d) v = record { is_finite = tt; square = to_fractions (n * up d) (2 ^ 1074) (s * 2 ^ b) (down d) (suc m * up e) U (down e) v.1 u.is (pow_pos 1074) (square_below (U * 2 ^ 1074) b s r) }
 
   double_ok : T (fits binary64 R)

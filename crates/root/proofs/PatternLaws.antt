@@ -38,6 +38,8 @@ of_pattern_number h s a b c = nan_bits_is binary64 (h * 2 ^ 52 + s) ∙ ap is_na
 
 -- ---- a value in units of the least double
 pub units_of_lem : (x : Float) (a : ℕ) → Equals x a (2 ^ 1074) → units_of x ≡ a
+units_of_lem nan a h = elim h [ ]
+units_of_lem (inf _) a h = elim h [ ]
 units_of_lem (fin s m e) a h = ap (λ (n : ℕ). n / down e) h ∙ mul-div_cancel a (down_pos e)
 
 odd_units : (s : Bool) (q k : ℕ) → units_of (odd 53 s q k 1074) ≡ q * 2 ^ k

@@ -103,6 +103,8 @@ units_beyond f s q k h = go (ltb (q * 2 ^ k) (overflow f)) (ltb→lt (q * 2 ^ k)
     go false l = refl
 
 value_finite : (x : Float) (s : Bool) (a c : ℕ) → HasValue x s a c → T (finite x)
+value_finite lib.Ieee.nan s a c h = elim h [ ]
+value_finite (inf _) s a c h = elim h [ ]
 value_finite (fin t m e) s a c h = tt
 
 module _ (f : Format) (s : Bool) (a c : ℕ) (C : 0 < c) where

@@ -73,6 +73,8 @@ round_value f s a c t =
     (units_val f s q k (units_finite f s q k (subst (λ (z : Float). T (finite z)) (round_is f s a c) t)))
 
 value_is : (x : Float) (s : Bool) (a c : ℕ) → HasValue x s a c → (sign x ≡ s) × (num x * c ≡ a * den x)
+value_is nan s a c h = elim h [ ]
+value_is (inf _) s a c h = elim h [ ]
 value_is (fin t m e) s a c h = h
 
 -- ---- distances as fractions, and in units
@@ -143,6 +145,8 @@ same_number (fin s m a) (fin r n b) g h e p t = go (eqb (m * up a * down b) (n *
 -- ---- a float's pattern, and its last bit
 bits_are : (f : Format) (x : Float) (s : Bool) (X : ℕ) → HasValue x s X (2 ^ low f) → to_bits f x ≡ cond s (top f) 0 + (size X - prec f) * hid f + lead (prec f) X
 unfolding to_bits
+bits_are f nan s X h = elim h [ ]
+bits_are f (inf _) s X h = elim h [ ]
 bits_are f (fin t m e) s X h =
     let is : m * up e * 2 ^ low f / down e ≡ X = ap (λ (z : ℕ). z / down e) h.1 ∙ mul-div_cancel X (down_pos e) in
     λ i. cond (h.0 i) (top f) 0 + (size (is i) - prec f) * hid f + lead (prec f) (is i)

@@ -20,6 +20,7 @@ pub mod ImageLaws
 pub mod GrowLaws
 pub mod TurnLaws
 pub mod ReadingLaws
+pub mod LowestLaws
 pub mod NumberedLaws
 pub mod PropertyLaws
 pub mod MeaningLaws

@@ -54,6 +54,10 @@ round_zero f s c C = round_same f s 0 c 0 1 C (zero-lt-suc 0) (zero-mul 1 ∙ sy
 -- ---- a product
 pub mul_val : (f : Format) (x y : Float) (s t : Bool) (a c b d : ℕ) → 0 < c → 0 < d → HasValue x s a c → HasValue y t b d → mul f x y ≡ round f (unlike s t) (a * b) (c * d)
 unfolding mul
+mul_val f nan y s t a c b d C D p q = elim p [ ]
+mul_val f (inf _) y s t a c b d C D p q = elim p [ ]
+mul_val f (fin u m e) nan s t a c b d C D p q = elim q [ ]
+mul_val f (fin u m e) (inf _) s t a c b d C D p q = elim q [ ]
 mul_val f (fin u m e) (fin v n g) s t a c b d C D p q =
     round_same f (unlike u v) (m * up e * (n * up g)) (down e * down g) (a * b) (c * d) (mul-pos (down_pos e) (down_pos g)) (mul-pos C D)
     (mul-mul-mul_comm (m * up e) (n * up g) c d ∙ ap₂ (λ (x y : ℕ). x * y) p.1 q.1 ∙ mul-mul-mul_comm a (down e) b (down g))
@@ -73,6 +77,10 @@ cross M N de dg a c b d p q =
 
 pub div_val : (f : Format) (x y : Float) (s t : Bool) (a c b d : ℕ) → 0 < c → 0 < d → 0 < b → HasValue x s a c → HasValue y t b d → div f x y ≡ round f (unlike s t) (a * d) (c * b)
 unfolding div
+div_val f nan y s t a c b d C D B p q = elim p [ ]
+div_val f (inf _) y s t a c b d C D B p q = elim p [ ]
+div_val f (fin u m e) nan s t a c b d C D B p q = elim q [ ]
+div_val f (fin u m e) (inf _) s t a c b d C D B p q = elim q [ ]
 div_val f (fin u m e) (fin v n g) s t a c b d C D B p q =
     let r = round f (unlike u v) (m * up e * down g) (n * up g * down e) in
     let z = cond (eqb m 0) nan (inf (unlike u v)) in

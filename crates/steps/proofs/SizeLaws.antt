@@ -82,6 +82,10 @@ empty false m e d h t = absurd t
 -- |a - b| ≤ a + b, rounded, for a and b that are not below zero
 pub difference : (f : Format) (x y : Float) → NonNeg x → NonNeg y → T (finite x) → T (finite y) → T (finite (add f x y)) → Within (sub f x y) (add f x y)
 unfolding add sub neg
+difference f nan y p q a b g = elim a [ ]
+difference f (inf _) y p q a b g = elim a [ ]
+difference f (fin s m e) nan p q a b g = elim b [ ]
+difference f (fin s m e) (inf _) p q a b g = elim b [ ]
 difference f (fin s m e) (fin t n d) p q a b g =
     let A = m * up e * down d in
     let B = n * up d * down e in

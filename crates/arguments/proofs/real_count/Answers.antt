@@ -1,0 +1,20 @@
+-- `arguments::real_count` meets its contract.
+use mathlib.Core.Path.{◌∙◌}
+use Rattle.arguments.proofs.AnswerLaws.{means, reals_none, reals_some, reals_full, reals_refused, real_count_malformed}
+use Rattle.numeral.specs.Count.{counted}
+use Rattle.arguments.proofs.real_count.Goals as goal
+
+pub returns-then-n-eq0 : goal.returns-then-n-eq0
+returns-then-n-eq0 c = reals_none _ _ _ _ (means counted c.count_of.ensures c.in-Value.is) c.reals_allowed.ensures c.if-reals_allowed.true c.fits.ensures c.if-fits.true c.if-n-eq0.true
+
+pub returns-then-fits : goal.returns-then-fits
+returns-then-fits c = c.going.ensures ∙ reals_some _ _ _ _ (means counted c.count_of.ensures c.in-Value.is) c.reals_allowed.ensures c.if-reals_allowed.true c.fits.ensures c.if-fits.true c.if-n-eq0.false
+
+pub returns-then-reals_allowed : goal.returns-then-reals_allowed
+returns-then-reals_allowed c = reals_full _ _ _ _ (means counted c.count_of.ensures c.in-Value.is) c.reals_allowed.ensures c.if-reals_allowed.true c.fits.ensures c.if-fits.false
+
+pub returns-in-Malformed : goal.returns-in-Malformed
+returns-in-Malformed c = real_count_malformed _ _ _ _ (means counted c.count_of.ensures c.in-Malformed.is)
+
+pub returns-else-reals_allowed : goal.returns-else-reals_allowed
+returns-else-reals_allowed c = reals_refused _ _ _ _ (means counted c.count_of.ensures c.in-Value.is) c.reals_allowed.ensures c.if-reals_allowed.false

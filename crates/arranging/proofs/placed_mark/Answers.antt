@@ -1,0 +1,13 @@
+-- `arranging::placed_mark` meets its contract.
+use Rattle.arranging.proofs.OrderLaws.{mark_stands, mark_surface}
+use Rattle.arranging.proofs.placed_mark.Goals as goal
+
+pub returns-then-is_surface : goal.returns-then-is_surface
+returns-then-is_surface c =
+    let a = c.args in
+    mark_surface _ _ c.kind_of.ensures _ c.is_surface.ensures c.if-is_surface.true
+
+pub returns : goal.returns
+returns c =
+    let a = c.args in
+    mark_stands _ _ c.kind_of.ensures _ c.is_surface.ensures c.if-is_surface.false

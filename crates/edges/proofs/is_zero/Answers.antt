@@ -1,0 +1,9 @@
+-- `edges::is_zero` meets its contract.
+use mathlib.Core.Path.{refl}
+use lib.Ieee.{of_bits}
+use Rattle.edges.specs.Normal.{is_zero}
+use Rattle.edges.proofs.is_zero.Goals as goal
+
+pub returns : goal.returns
+unfolding is_zero of_bits
+returns c = refl

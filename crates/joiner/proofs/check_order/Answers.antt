@@ -1,0 +1,18 @@
+-- `joiner::check_order` meets its contract.
+use Rattle.joiner.proofs.OrderLaws.{typed_failed, typed_refused, typed_settled}
+use Rattle.joiner.proofs.check_order.Goals as goal
+
+pub returns-then-holds : goal.returns-then-holds
+returns-then-holds c =
+    let a = c.args in
+    typed_settled a.mode a.left.now a.right.now a.typed.now a.order.now a.records.now a.reals.now a.out.now _ _ (rw c.in-Accepted.is at c.read_with_own_tables.ensures) _ c.holds.ensures c.if-holds.true c.settle.ensures
+
+pub returns-in-Refused : goal.returns-in-Refused
+returns-in-Refused c =
+    let a = c.args in
+    typed_refused a.mode a.left.now a.right.now a.typed.now a.order.now a.records.now a.reals.now a.out.now _ _ (rw c.in-Refused.is at c.read_with_own_tables.ensures) c.refuse.ensures
+
+pub returns-else-holds : goal.returns-else-holds
+returns-else-holds c =
+    let a = c.args in
+    typed_failed a.mode a.left.now a.right.now a.typed.now a.order.now a.records.now a.reals.now a.out.now _ _ (rw c.in-Accepted.is at c.read_with_own_tables.ensures) _ c.holds.ensures c.if-holds.false c.refuse-in-Accepted.ensures

@@ -1,0 +1,22 @@
+-- `joiner::propose` meets its contract.
+use mathlib.Core.Path.{refl, sym}
+use Prim.Native.Nat.{◌≤◌}
+use native.Mathlib.Omega.{arith}
+use lib.Seq.{length-take-le}
+use Rattle.joiner.proofs.OrderLaws.{proposes_order, proposes_refused}
+use Rattle.joiner.proofs.propose.Goals as goal
+
+pub slice_bounds-propose_order-end : goal.slice_bounds-propose_order-end
+slice_bounds-propose_order-end c =
+    let l : c.least-end.result ≤ 2048 = omega (arith, c.least-end.ensures) in
+    sym (length-take-le _ _ (omega (arith, l, c.plan-planned.ensures.size)))
+
+pub returns-in-Refused : goal.returns-in-Refused
+returns-in-Refused c =
+    let a = c.args in
+    proposes_refused a.mode a.base.now a.left.now a.right.now a.records.now a.reals.now a.out.now c.plan-planned.result.order _ _ _ (rw c.in-Refused.is at c.plan-planned.ensures) c.refuse.ensures
+
+pub returns-in-Ordered : goal.returns-in-Ordered
+returns-in-Ordered c =
+    let a = c.args in
+    proposes_order a.mode a.base.now a.left.now a.right.now a.records.now a.reals.now a.out.now c.plan-planned.result.order _ (rw c.in-Ordered.is at c.plan-planned.ensures) _ c.least-end.ensures _ refl c.propose_order.ensures

@@ -1,0 +1,23 @@
+-- `joiner::propose_order` meets its contract.
+use mathlib.Core.Path.{refl, sym}
+use Prim.Native.Nat.{◌≤◌}
+use native.Mathlib.Omega.{arith}
+use lib.Seq.{length-take-le}
+use Rattle.joiner.proofs.OrderLaws.{order_long, order_read}
+use Rattle.joiner.proofs.propose_order.Goals as goal
+
+pub returns-then-end : goal.returns-then-end
+returns-then-end c =
+    let a = c.args in
+    order_long a.mode a.left.now a.right.now a.order.now a.records.now a.reals.now a.out.now refl c.put_hands-end.ensures c.if-end.true c.refuse.ensures
+
+pub slice_bounds-read_proposed-end : goal.slice_bounds-read_proposed-end
+slice_bounds-read_proposed-end c =
+    let p = c.put_hands-end in
+    let l : c.least-at.result ≤ 65536 = omega (arith, c.least-at.ensures) in
+    sym (length-take-le _ _ (omega (arith, l, p.ensures.size)))
+
+pub returns : goal.returns
+returns c =
+    let a = c.args in
+    order_read a.mode a.left.now a.right.now a.order.now a.records.now a.reals.now a.out.now refl c.put_hands-end.ensures c.if-end.false _ c.least-at.ensures _ refl c.read_proposed.ensures

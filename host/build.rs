@@ -1,4 +1,4 @@
-//! Links the archive that `rt staticlib kribbelsteen` writes.
+//! Links the archive of crate `kribbelsteen`.
 
 use std::env;
 use std::path::PathBuf;
@@ -11,7 +11,7 @@ fn main() {
     println!("cargo:rerun-if-changed={}", archive.display());
     if !archive.is_file() {
         eprintln!(
-            "There is no {}.\nRun `rt staticlib kribbelsteen` in the repository's top folder first: \
+            "There is no {}.\nRun `tools/build.sh kribbelsteen` in the repository's top folder first: \
              it proves the library and writes the archive.",
             archive.display()
         );

@@ -37,7 +37,7 @@ def numbers(ns):
 count = int(sys.argv[1]) if len(sys.argv) > 1 else 400
 seed = int(sys.argv[2]) if len(sys.argv) > 2 else 1
 opened = (TOP / "crates/samples/proofs/SampleLaws.antt").read_text()
-uses = [line for line in opened.split("\n") if line.startswith("use ") and "proofs" not in line and not re.search("·(%s)[.·]" % OTHERS, line)]
+uses = [line for line in opened.split("\n") if line.startswith("use ") and not re.search(r"Rattle\.\w+\.proofs\.|Rattle\.(%s)\." % OTHERS, line)]
 names = [line[len("unfolding ") :] for line in opened.split("\n") if line.startswith("unfolding ")][:2]
 rows, reasons = [], collections.Counter()
 for k, (archive, text, records, reals) in enumerate(texts.texts(seed, count, 3)):
@@ -49,30 +49,29 @@ for k, (archive, text, records, reals) in enumerate(texts.texts(seed, count, 3))
     )
 with tempfile.TemporaryDirectory() as folder:
     copy = pathlib.Path(folder, "copy")
-    shutil.copytree(TOP, copy, ignore=shutil.ignore_patterns("target", ".git"))
+    shutil.copytree(TOP, copy, ignore=shutil.ignore_patterns("target", "out", ".git"))
     crate = copy / "crates" / "rows"
     for part in ("src", "specs"):
         (crate / part).mkdir(parents=True)
-    (crate / "src" / "lib.rt").write_text("// Rows computed from the definitions.\n")
+    (crate / "src" / "lib.rt").write_text("// Rows computed from the definitions.\n#![tactic(auto)]\n")
     (crate / "specs" / "Lib.antt").write_text("pub mod Rows\n")
-    head = [line.replace("Rattle·scene·specs", "Rattle·scene") for line in uses]
-    head += [
+    head = uses + [
         "use mathlib.Core.Bool.{cond}",
         "use mathlib.Core.List.{map}",
         "use Prim.Native.Nat.{suc}",
         "use lib.Dec.{eqb}",
         "use lib.Ieee.{binary64}",
-        "use Rattle·scene.specs.Record.{answer, flat, fields, newlines}",
-        "use Rattle·index.specs.Index.{hashFrom, indexBy, passed, seek, stops}",
-        "use Rattle·index.specs.Report.{allLooked, givesNo, indexImage, nameNo, report}",
-        "use Rattle·graph.specs.Answers.{lowest, lowestLoop}",
-        "use Rattle·graph.specs.Graph.{goesFrom, link}",
-        "use Rattle·graph.specs.Paths.{via}",
-        "use Rattle·sides.specs.Read.{firstUnknown, isKnown, read}",
-        "use Rattle·sides.specs.Sides.{fromNumber, pairs, pairsFrom}",
+        "use Rattle.scene.specs.Record.{answer, flat, fields, newlines}",
+        "use Rattle.index.specs.Index.{hash_from, index_by, passed, seek, stops}",
+        "use Rattle.index.specs.Report.{all_looked, gives_no, index_image, name_no, report}",
+        "use Rattle.graph.specs.Answers.{lowest, lowest_loop}",
+        "use Rattle.graph.specs.Graph.{goes_from, link}",
+        "use Rattle.graph.specs.Paths.{via}",
+        "use Rattle.sides.specs.Read.{first_unknown, is_known, read}",
+        "use Rattle.sides.specs.Sides.{from_number, pairs, pairs_from}",
     ]
-    opens = " flat newlines toBits allLooked givesNo nameNo indexBy hashFrom passed seek stops used"
-    opens += " read firstUnknown isKnown lowestLoop lowest via link goesFrom fromNumber pairs pairsFrom"
+    opens = " flat newlines to_bits all_looked gives_no name_no index_by hash_from passed seek stops used"
+    opens += " read first_unknown is_known lowest_loop lowest via link goes_from from_number pairs pairs_from"
     everything = "everything : ℕ\nunfolding " + names[0] + " " + names[1].replace("readings ", "") + opens + "\neverything = 0\n"
     used = (
         "used : ℕ → List ℕ → List ℕ\n"
@@ -81,12 +80,12 @@ with tempfile.TemporaryDirectory() as folder:
     )
     facts = (
         "facts : Settings → Bytes → List ℕ\n"
-        "facts r t = let x = read r t in let a = answer x in a .reason ∷ a .place ∷ a .primitives ∷ a .reals ∷ report x ∷ flat t (records (entries x)) ++ map (toBits binary64) (realTable (entries x)) ++ used 0 (indexImage 2048 x) ++ pairs (statements (entries x))\n"
+        "facts r t = let x = read r t in let a = answer x in a.reason ∷ a.place ∷ a.primitives ∷ a.reals ∷ report x ∷ flat t (records (entries x)) ++ map (to_bits binary64) (real_table (entries x)) ++ used 0 (index_image 2048 x) ++ pairs (statements (entries x))\n"
     )
     (crate / "specs" / "Rows.antt").write_text("\n".join(head) + "\n\n" + used + "\n" + everything + "\n" + facts + "\n" + "\n".join(rows))
     with (copy / "crates.txt").open("a") as f:
         f.write("rows: laws lexer numeral_parts numeral scene index graph sides\n")
-    ran = subprocess.run(["rt", "check", "rows"], cwd=copy, capture_output=True, text=True)
+    ran = subprocess.run(["rt", "check"], cwd=crate, capture_output=True, text=True)
 out = ran.stdout + ran.stderr
 differ = sorted({line.split("`")[1] for line in out.split("\n") if ": error: `row" in line})
 print("%d texts, %d differ; by reason: %s" % (count, len(differ), dict(sorted(reasons.items()))))

@@ -1,5 +1,5 @@
-// A word reader over a lent text. It knows blanks only: a comment's words are words like any other. Proofs about a struct
-// that holds a reference are by hand, so each function is thin, and the work is done in crate `lexer`.
+// A word reader over a lent text. It knows blanks only: a comment's words are words like any other. The work is done in crate
+// `lexer`.
 #![tactic(auto)]
 
 ghost use Rattle.std.specs.Prelude.{◌≡◌};
@@ -52,7 +52,7 @@ pub fn moved<'a>(r: WordReader<'a>) -> WordReader<'a>
     }
 }
 
-// The next word of a text from `at` on. Its parameters are plain, so who calls it needs no proof by hand.
+// The next word of a text from `at` on. Its parameters are plain.
 pub fn next_from(text: &[u8], at: usize) -> Word
     ensures { result ≡ word_at text.now at }
 {

@@ -1,15 +1,13 @@
 -- What a count, a string or a real comes to: one law for each answer of the step.
 use mathlib.Core.Bool.{Bool, true, false}
-use mathlib.Core.Logic.{◌⊎◌, inl, inr}
 use mathlib.Core.Option.{none, some}
 use mathlib.Core.Path.{◌≡◌, refl, ap, sym, ◌∙◌}
 use Prim.Native.Nat.{ℕ, ◌+◌, ◌-◌, ◌≤◌, ◌<◌}
-use native.Mathlib.Omega.{arith}
-use borrow.Author.Tests.{le-leb, lt-leb, lt-ltb, le-ltb}
+use borrow.Author.Tests.{lt-ltb, le-ltb}
 use lib.Dec.{leb}
 use lib.Ieee.{Float}
 use Rattle.arguments.specs.Steps.{integer_count_step, integer_counted, real_count_step, real_left, real_step, reals_to, stored_in, string_count_step, string_left, string_step, strings_to, with_reals, with_strings}
-use Rattle.laws.proofs.NatLaws.{le_or_lt, nonzero}
+use Rattle.laws.proofs.NatLaws.{nonzero}
 use Rattle.laws.specs.Bytes.{Bytes}
 use Rattle.numeral.specs.Count.{count_of}
 use Rattle.numeral.specs.Numeral.{numeral_of, value, refusal}
@@ -20,7 +18,7 @@ use Rattle.statement.specs.declared.Draft.{Draft}
 use Rattle.statement.specs.declared.Seen.{Seen}
 use Rattle.statement.specs.declared.State.{State}
 use Rattle.statement.specs.declared.Phase.TheVariants as is
-use Rattle.statement.specs.declared.Step.TheVariants as to
+use Rattle.statement.specs.Step as to
 
 -- what an answer of the code means, once its case is known
 pub means : {A B : Type 0} (f : A → B) {r k : A} {x : B} → f r ≡ x → r ≡ k → x ≡ f k
@@ -84,18 +82,6 @@ module _ (w : Bytes) (room : ℕ) (s : State) (v : Seen) where
       pub real_more : {t : State} → t ≡ stored_in s (s.used + 1) (s.left - 1) → (s.left ≡ 0 → ⊥) → to.Real t x ≡ real_step w room s v
       unfolding real_step
       real_more g z = rw (g, c, ← f, ← e, h, lt-ltb s.used room l) (nonzero (λ n k. to.Real (stored_in s (s.used + 1) k) x ≡ real_left s x n) (λ k. refl) s.left z)
-
--- whether so many more reals fit
-module _ (u n room : ℕ) where
-  pub fits_within : u ≤ room → leb n (room - u) ≡ leb (u + n) room
-  fits_within h = go (le_or_lt (u + n) room)
-    where
-      go : (u + n ≤ room) ⊎ (room < u + n) → leb n (room - u) ≡ leb (u + n) room
-      go (inl l) = le-leb n (room - u) (omega arith) ∙ sym (le-leb (u + n) room l)
-      go (inr l) = lt-leb n (room - u) (omega arith) ∙ sym (lt-leb (u + n) room l)
-
-  pub fits_not : room < u → false ≡ leb (u + n) room
-  fits_not h = sym (lt-leb (u + n) room (omega arith))
 
 -- the count of reals
 module _ (w : Bytes) (room : ℕ) (s : State) (v : Seen) where

@@ -3,16 +3,18 @@
 
 ghost use Rattle.std.specs.Prelude.{◌≡◌, ◌+◌, ◌-◌, leb};
 ghost use Rattle.arguments.specs.Steps.{integer_count_step, real_count_step, real_step, stored_in, string_count_step, string_step, with_string};
+ghost use Rattle.statement.specs.Step.{as_step};
 
-use numeral::{Count, Numeral};
-use statement::{Draft, Phase, Seen, State, Step, going};
+use numeral::NumeralError;
+use scene::Reason;
+use statement::{Draft, Phase, Seen, State, Step, going, refused};
 
 pub fn string_count(word: &[u8], s: State, v: Seen) -> Step
-    ensures { result ≡ string_count_step word.now s v }
+    ensures { as_step result ≡ string_count_step word.now s v }
 {
     match numeral::count_of(word) {
-        Count::Malformed => Step::Refused(12, v.place),
-        Count::Value(n) => {
+        None => refused(Reason::BadCount, v.place),
+        Some(n) => {
             let mut d = s.draft;
             if kinds::strings_allowed(d.kind, n) {
                 d.strings = n;
@@ -21,13 +23,13 @@ pub fn string_count(word: &[u8], s: State, v: Seen) -> Step
                 }
                 return going(s, Phase::FirstString, n - 1, d);
             }
-            Step::Refused(12, v.place)
+            refused(Reason::BadCount, v.place)
         }
     }
 }
 
 fn string(s: State, d: Draft) -> Step
-    ensures { result ≡ string_step s d }
+    ensures { as_step result ≡ string_step s d }
 {
     if s.left == 0 {
         return going(s, Phase::IntegerCount, 0, d);
@@ -36,7 +38,7 @@ fn string(s: State, d: Draft) -> Step
 }
 
 pub fn first_string(s: State, v: Seen) -> Step
-    ensures { result ≡ string_step s (with_string s.draft v.name) }
+    ensures { as_step result ≡ string_step s (with_string s.draft v.name) }
 {
     let mut d = s.draft;
     d.string = v.name;
@@ -44,23 +46,21 @@ pub fn first_string(s: State, v: Seen) -> Step
 }
 
 pub fn later_string(s: State) -> Step
-    ensures { result ≡ string_step s s.draft }
+    ensures { as_step result ≡ string_step s s.draft }
 {
-    let d = s.draft;
-    string(s, d)
+    string(s, s.draft)
 }
 
 pub fn integer_count(word: &[u8], s: State, v: Seen) -> Step
-    ensures { result ≡ integer_count_step word.now s v }
+    ensures { as_step result ≡ integer_count_step word.now s v }
 {
     match numeral::count_of(word) {
-        Count::Malformed => Step::Refused(12, v.place),
-        Count::Value(n) => {
+        None => refused(Reason::BadCount, v.place),
+        Some(n) => {
             if n == 0 {
-                let d = s.draft;
-                return going(s, Phase::RealCount, 0, d);
+                return going(s, Phase::RealCount, 0, s.draft);
             }
-            Step::Refused(12, v.place)
+            refused(Reason::BadCount, v.place)
         }
     }
 }
@@ -69,18 +69,15 @@ pub fn integer_count(word: &[u8], s: State, v: Seen) -> Step
 pub fn fits(used: usize, n: u32, room: usize) -> bool
     ensures { result ≡ leb (used + n) room }
 {
-    if used <= room {
-        return n as usize <= room - used;
-    }
-    false
+    used.checked_add(n as usize).is_some_and(|sum| sum <= room)
 }
 
 pub fn real_count(word: &[u8], room: usize, s: State, v: Seen) -> Step
-    ensures { result ≡ real_count_step word.now room s v }
+    ensures { as_step result ≡ real_count_step word.now room s v }
 {
     match numeral::count_of(word) {
-        Count::Malformed => Step::Refused(12, v.place),
-        Count::Value(n) => {
+        None => refused(Reason::BadCount, v.place),
+        Some(n) => {
             let mut d = s.draft;
             if kinds::reals_allowed(d.kind, n) {
                 if fits(s.used, n, room) {
@@ -91,9 +88,9 @@ pub fn real_count(word: &[u8], room: usize, s: State, v: Seen) -> Step
                     d.reals = n;
                     return going(s, Phase::Real, n - 1, d);
                 }
-                return Step::Refused(13, v.place);
+                return refused(Reason::NoRoomForReals, v.place);
             }
-            Step::Refused(12, v.place)
+            refused(Reason::BadCount, v.place)
         }
     }
 }
@@ -102,31 +99,29 @@ pub fn real_count(word: &[u8], room: usize, s: State, v: Seen) -> Step
 fn stored(s: State, used: usize, left: u32) -> State
     ensures { result ≡ stored_in s used left }
 {
-    let mut t = s;
-    t.used = used;
-    t.left = left;
-    t
+    State { used, left, ..s }
 }
 
 pub fn less(a: u32, b: u32) -> u32
     ensures { result ≡ a - b }
 {
-    if a < b { 0 } else { a - b }
+    a.saturating_sub(b)
 }
 
 pub fn real(word: &[u8], room: usize, s: State, v: Seen) -> Step
-    ensures { result ≡ real_step word.now room s v }
+    ensures { as_step result ≡ real_step word.now room s v }
 {
     match numeral::numeral_of(word) {
-        Numeral::Malformed => Step::Refused(14, v.place),
-        Numeral::TooLarge => Step::Refused(15, v.place),
-        Numeral::Value(x) => {
+        Err(NumeralError::Malformed) => refused(Reason::BadNumeral, v.place),
+        Err(NumeralError::TooLarge) => refused(Reason::NumeralTooLarge, v.place),
+        Ok(x) => {
             let d = s.draft;
-            if kinds::breaches(d.kind, less(d.reals, s.left), x, v.previous, v.first) {
-                return Step::Refused(16, v.place);
+            let nth = d.reals.saturating_sub(s.left);
+            if kinds::breaches(d.kind, nth, x, v.previous, v.first) {
+                return refused(Reason::BreaksHouseRule, v.place);
             }
             if room <= s.used {
-                return Step::Refused(13, v.place);
+                return refused(Reason::NoRoomForReals, v.place);
             }
             if s.left == 0 {
                 return Step::Last(stored(s, s.used + 1, 0), x);

@@ -1,35 +1,23 @@
 -- The bits of a NaN, and lists of reals compared one by one.
-use mathlib.Core.Bool.{Bool, true, false, not, beq}
+use mathlib.Core.Bool.{Bool, true, false, ◌&&◌}
 use mathlib.Core.List.{List, [], ◌∷◌}
-use mathlib.Core.Path.{◌≡◌, refl}
-use Prim.Native.Nat.{ℕ, ◌+◌, ◌*◌, ◌≤◌, ◌<◌}
+use mathlib.Core.Path.{◌≡◌, refl, ap}
+use Prim.Native.Nat.{ℕ, ◌+◌, ◌≤◌, ◌<◌}
 use native.Mathlib.Omega.{arith}
 use borrow.Author.Tests.{eq-eqb, ne_eqb}
-use lib.Dec.{T, eqb}
-use lib.Ieee.{Float, nan, inf, fin, binary64, eq, is_nan, to_bits, level, up, down}
+use lib.Dec.{eqb}
+use lib.Ieee.{Float, nan, inf, fin, binary64, is_nan, to_bits}
 use lib.ListN.{length, drop, get_or}
 use Rattle.laws.proofs.CompareLaws.{ByElement, lengths_differ, compared_end, compared_stop, compared_step}
+use Rattle.std.specs.List.{list_all, zip}
 use Rattle.bits.specs.Bits.{same_reals}
 
--- what equals itself is no NaN, and what does not is one
-pub number : (x : Float) → eq x x ≡ true → T (not (is_nan x))
-unfolding eq is_nan
-number nan e = let z : ◌≡◌ {A = ℕ} 0 1 = cc in absurd (omega arith)
-number (inf s) e = tt
-number (fin s m p) e = tt
-
-beq_refl : (s : Bool) → beq s s ≡ true
-beq_refl true = refl
-beq_refl false = refl
-
-level_refl : (s : Bool) (n : ℕ) → level s n s n ≡ true
-level_refl s n = rw (eq-eqb n n refl, beq_refl s)
-
-pub nan_bits : (x : Float) → eq x x ≡ false → 9221120237041090560 ≡ to_bits binary64 x
-unfolding eq to_bits
+-- the bits of a NaN
+pub nan_bits : (x : Float) → is_nan x ≡ true → 9221120237041090560 ≡ to_bits binary64 x
+unfolding is_nan to_bits
 nan_bits nan e = refl
-nan_bits (inf s) e = let h = beq_refl s in let z : ◌≡◌ {A = ℕ} 0 1 = cc in absurd (omega arith)
-nan_bits (fin s m p) e = let h = level_refl s (m * up p * down p) in let z : ◌≡◌ {A = ℕ} 0 1 = cc in absurd (omega arith)
+nan_bits (inf s) e = cc
+nan_bits (fin s m p) e = cc
 
 pub reals_same : (xs : List Float) → same_reals xs xs ≡ true
 unfolding same_reals
@@ -52,3 +40,11 @@ module _ (a b : List Float) (h : length a ≡ length b) (i : ℕ) where
 
   pub reals_step : i < length a → to_bits binary64 (get_or a i nan) ≡ to_bits binary64 (get_or b i nan) → same_reals (drop (i + 1) a) (drop (i + 1) b) ≡ same_reals (drop i a) (drop i b)
   reals_step l e = compared_step by_bits a b h i nan l (eq-eqb (to_bits binary64 (get_or a i nan)) (to_bits binary64 (get_or b i nan)) e)
+
+-- lists of one length, their reals side by side
+pub all_bits : (a b : List Float) → length a ≡ length b → list_all (λ (p : Float × Float). eqb (to_bits binary64 p.0) (to_bits binary64 p.1)) (zip a b) ≡ same_reals a b
+unfolding same_reals
+all_bits [] [] h = refl
+all_bits [] (y ∷ b) h = absurd (omega arith)
+all_bits (x ∷ a) [] h = absurd (omega arith)
+all_bits (x ∷ a) (y ∷ b) h = ap (λ (t : Bool). eqb (to_bits binary64 x) (to_bits binary64 y) && t) (all_bits a b (omega arith))

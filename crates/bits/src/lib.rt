@@ -13,25 +13,12 @@ const NAN_BITS: u64 = 9221120237041090560;
 pub fn bits_of(x: f64) -> u64
     ensures { result ≡ to_bits binary64 x }
 {
-    if x == x {
-        return f64::to_bits(x);
-    }
-    NAN_BITS
+    if x.is_nan() { NAN_BITS } else { x.to_bits() }
 }
 
 // Whether two lists of reals have the same bits.
 pub fn same_bits(a: &[f64], b: &[f64]) -> bool
     ensures { result ≡ same_reals a.now b.now }
 {
-    if a.len() != b.len() {
-        return false;
-    }
-    let mut i = 0;
-    while i < a.len() {
-        if bits_of(a[i]) != bits_of(b[i]) {
-            return false;
-        }
-        i += 1;
-    }
-    true
+    a.len() == b.len() && a.iter().zip(b).all(|(x, y)| bits_of(*x) == bits_of(*y))
 }

@@ -1,30 +1,28 @@
 -- Blocks put into an output one behind the other.
-use mathlib.Core.Bool.{true, false}
 use mathlib.Core.List.{List, [], ◌++◌}
 use mathlib.Core.Path.{◌≡◌, ap, sym, ◌∙◌}
-use Prim.Native.Nat.{ℕ, suc, ◌+◌, ◌-◌, ◌≤◌, ◌<◌, min}
+use Prim.Native.Nat.{ℕ, suc, ◌+◌, ◌-◌, ◌≤◌, ◌<◌}
 use native.Mathlib.Omega.{arith}
 use lib.ListN.{drop, drop_of_length-le, get_or, length, length-drop, replicate, take}
 use lib.Seq.{drop-cons, take_all}
 use Rattle.block_text.specs.BlockText.{WritesBlocks, block_in, blocks_in, sorted_in}
 use Rattle.laws.specs.Bytes.{Bytes, part}
-use Rattle.lines.proofs.PutsLaws.{puts_length}
 use Rattle.lines.specs.Puts.{Puts}
 use Rattle.lines.specs.declared.Cursor.{Cursor}
-use Rattle.scene.specs.Record.{filled}
+use Rattle.scene.specs.declared.Refusal.{Refusal}
 use Rattle.table.specs.Number.{number_in}
-use Rattle.writer.proofs.AnswerLaws.{end_is, fitting, front, rest_cleared, too_long}
-use Rattle.writer.specs.Answer.{answered, output}
-use Rattle.writer.specs.declared.Answer.TheVariants as call
+use Rattle.std.specs.Prelude.{Result}
+use Rattle.writer.proofs.AnswerLaws.{front, leaves_put, left_cleared}
+use Rattle.writer.specs.Answer.{answer_of, fitted}
+use Rattle.writer.specs.Left.{length_put, used}
 
 -- ---- blocks one behind the other
 
-pub block_is : (text : Bytes) (E : List ℕ) (n : ℕ) {m start end least : ℕ} → m ≡ n - 1 → start ≡ number_in E m → end ≡ number_in E n → least ≡ min start end → {new : Bytes} → new ≡ part text start (end - least) → new ≡ block_in text E n
+pub block_is : (text : Bytes) (E : List ℕ) (n : ℕ) {m start end size : ℕ} → m ≡ n - 1 → start ≡ number_in E m → end ≡ number_in E n → size ≡ end - start → {new : Bytes} → new ≡ part text start size → new ≡ block_in text E n
 unfolding block_in
-block_is text E n {start = start} {end = end} {least = least} p q s l e =
-    let a : start ≡ number_in E (n - 1) = q ∙ ap (number_in E) p in
-    let b : end - least ≡ end - start = omega (arith, l) in
-    e ∙ (λ i. part text (a i) (b i)) ∙ (λ i. part text (number_in E (n - 1)) (s i - a i))
+block_is text E n p q s l e =
+    let a = q ∙ ap (number_in E) p in
+    e ∙ (λ i. part text (a i) (l i)) ∙ (λ i. part text (number_in E (n - 1)) (s i - a i))
 
 pub one_block : (text : Bytes) (E ks : List ℕ) (i : ℕ) → i < length ks → {new : Bytes} → new ≡ block_in text E (get_or ks i 0) → blocks_in text E (drop i ks) ≡ new ++ blocks_in text E (drop (i + 1) ks)
 unfolding blocks_in
@@ -41,9 +39,7 @@ pub rest_is : (text : Bytes) (E ks : List ℕ) {at : ℕ} → at ≡ number_in E
 unfolding sorted_in
 rest_is text E ks {at = at} e p = ap (λ (z : Bytes). blocks_in text E ks ++ z) (p ∙ take_all (length text) (drop at text) (omega (arith, length-drop at text)) ∙ ap (λ (n : ℕ). drop n text) e)
 
-module _ (text : Bytes) (E ks : List ℕ) {out mid : Bytes} {r : Cursor} (p : Puts out front (sorted_in text E ks) r mid) where
-  pub blocks_too_long : r.full ≡ true → {out' : Bytes} → out' ≡ filled 0 (length mid) [] → WritesBlocks text E ks out (call.Refused 23 0) out'
-  blocks_too_long f z = record { says = ap answered (sym (too_long p f)); output = z ∙ ap (λ (k : ℕ). filled 0 k []) (puts_length p) ∙ ap (output (length out)) (sym (too_long p f)) }
-
-  pub blocks_written : (f : r.full ≡ false) → {out' : Bytes} → out' ≡ take r.at mid ++ replicate (length mid - r.at) 0 → WritesBlocks text E ks out (call.Written r.at) out'
-  blocks_written f z = record { says = ap call.Written (end_is p f) ∙ ap answered (sym (fitting p f)); output = z ∙ rest_cleared p f ∙ ap (output (length out)) (sym (fitting p f)) }
+pub blocks_written : (text : Bytes) (E ks : List ℕ) {out mid : Bytes} {r : Cursor} → Puts out front (sorted_in text E ks) r mid → (w v : Result ℕ Refusal) → answer_of w ≡ length_put r → v ≡ w → {out' : Bytes} → out' ≡ take (used w) mid ++ replicate (length mid - used w) 0 → WritesBlocks text E ks out (answer_of v) out'
+blocks_written text E ks {out = out} {mid = mid} p w v e f z =
+    let left = leaves_put p e in
+    record { says = ap answer_of f ∙ left.says; output = left_cleared (fitted (length out) (sorted_in text E ks)) out mid w left z }

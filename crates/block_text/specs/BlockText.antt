@@ -2,8 +2,7 @@
 use Rattle.std.specs.Prelude.{List, [], ◌∷◌, ◌++◌, ◌≡◌, ℕ, ◌-◌, length, drop}
 use Rattle.laws.specs.Bytes.{Bytes, part}
 use Rattle.table.specs.Number.{number_in}
-use Rattle.writer.specs.Answer.{answered, fitted, output}
-use Rattle.writer.specs.declared.Answer.{Answer}
+use Rattle.writer.specs.Answer.{Answer, answered, fitted, output}
 
 -- block n, by the places behind it and behind the one before it
 unfoldable pub block_in : Bytes → (ends : List ℕ) → (n : ℕ) → Bytes

@@ -10,8 +10,7 @@ use native.Mathlib.Omega.{arith}
 use borrow.Author.Tests.{eq-eqb, ne_eqb, le-ltb, lt-ltb, not-false, not-true}
 use lib.ListN.{length, set, drop, length-append, drop_of_length-le, replicate}
 use lib.Seq.{append_snoc, drop-cons, set_at}
-use Rattle.blocks.specs.Code.{Cuts, answer_of, block_end_in, crowded_cut, crowded_in, early_in, end_in, ends_to, tail_in, table_of, verdict_in}
-use Rattle.blocks.specs.declared.Cut.TheVariants.{Made, Refused}
+use Rattle.blocks.specs.Code.{Cuts, block_end_in, crowded_in, early_in, end_in, ends_to, tail_in, table_of, verdict_in, verdict_of}
 use Rattle.laws.specs.Bytes.{Bytes}
 use Rattle.laws.proofs.NatLaws.{le_or_lt}
 use Rattle.laws.specs.Runs.{past}
@@ -20,6 +19,8 @@ use Rattle.lexer.specs.Word.{behind_words}
 use Rattle.rearrangement.specs.Blocks.{Verdict, can, cannot, behind_line, lines_end, or_else, uncrowded}
 use Rattle.rearrangement.specs.Layout.{first_word}
 use Rattle.scene.specs.Record.{record_in}
+use Rattle.scene.specs.declared.Refusal.{Refusal}
+use Rattle.std.specs.Prelude.{Result, Ok, Err}
 
 -- ---- the words of a record, and the place behind them
 
@@ -82,8 +83,8 @@ module _ (text : Bytes) (T : List ℕ) where
       go none f = f
       go (some p) f = let z : ◌≡◌ {A = ℕ} 0 1 = cc (kept p m n h f) in absurd (omega arith)
 
-  pub crowded_never : (n count : ℕ) → crowded_in text T n ≡ none → count ≤ n → Made ≡ crowded_cut text T count
-  crowded_never n count e h = ap (λ (o : Option ℕ). answer_of (uncrowded o)) (sym (none_below n count h e))
+  pub crowded_never : (n count : ℕ) → crowded_in text T n ≡ none → count ≤ n → can ≡ uncrowded (crowded_in text T count)
+  crowded_never n count e h = ap uncrowded (sym (none_below n count h e))
 
   -- what record n + 1 adds, where the code has found its place and the line's end
   more : (n : ℕ) → crowded_in text T n ≡ none → crowded_in text T (n + 1) ≡ early_in text T n
@@ -101,11 +102,11 @@ module _ (text : Bytes) (T : List ℕ) where
     start_is : start ≡ first_word text (end_in text T n)
     start_is = s ∙ ap (first_word text) at
 
-    pub crowded_here : start < bound → (count : ℕ) → n < count → Refused 34 start ≡ crowded_cut text T count
+    pub crowded_here : start < bound → (count : ℕ) → n < count → cannot 34 start ≡ uncrowded (crowded_in text T count)
     crowded_here l count h =
         let t = lt-ltb (first_word text (end_in text T n)) (block_end_in text T n) (omega (arith, start_is, bound_is)) in
         let here : early_in text T n ≡ some start = rw t (ap some (sym start_is)) in
-        ap (λ (o : Option ℕ). answer_of (uncrowded o)) (sym (kept start (n + 1) count (omega arith) (more n e ∙ here)))
+        ap uncrowded (sym (kept start (n + 1) count (omega arith) (more n e ∙ here)))
 
     pub crowded_on : bound ≤ start → crowded_in text T (n + 1) ≡ none
     crowded_on l =
@@ -147,33 +148,22 @@ module _ (text : Bytes) (T ends : List ℕ) where
 
 -- ---- the whole answer
 
-module _ (ends : List ℕ) (n : ℕ) where
-  table_zero : {reason place : ℕ} (v : Verdict) → Refused reason place ≡ answer_of v → replicate n 0 ≡ table_of v ends n
-  table_zero (cannot c p) e = refl
-  table_zero can e = let z : ◌≡◌ {A = ℕ} 0 1 = cc in absurd (omega arith)
-
-  table_kept : (v : Verdict) → Made ≡ answer_of v → ends ≡ table_of v ends n
-  table_kept (cannot c p) e = let z : ◌≡◌ {A = ℕ} 0 1 = cc in absurd (omega arith)
-  table_kept can e = refl
-
-module _ (text : Bytes) (T : List ℕ) (n : ℕ) {ended : Bool} (e : ended ≡ lines_end text) where
-  pub cut_unended : {ends' : List ℕ} → not ended ≡ true → ends' ≡ replicate n 0 → Cuts text T n (Refused 33 (length text)) ends'
-  unfolding verdict_in
-  cut_unended q z = let f : lines_end text ≡ false = sym e ∙ not-true ended q in record { says = rw f; ends = rw f z }
-
-  module _ (q : not ended ≡ false) where
-    by_crowding : verdict_in text T n ≡ uncrowded (crowded_in text T n)
+module _ (text : Bytes) (T : List ℕ) (n : ℕ) where
+  module _ {ended : Bool} (e : ended ≡ lines_end text) where
+    pub unended_is : ended ≡ false → cannot 33 (length text) ≡ verdict_in text T n
     unfolding verdict_in
-    by_crowding = let f : lines_end text ≡ true = sym e ∙ not-false ended q in rw f
+    unended_is q = let f : lines_end text ≡ false = sym e ∙ q in rw f
 
-    pub cut_crowded : {reason place : ℕ} {ends' : List ℕ} → Refused reason place ≡ crowded_cut text T n → ends' ≡ replicate n 0 → Cuts text T n (Refused reason place) ends'
-    cut_crowded h z = record {
-      says = h ∙ ap answer_of (sym by_crowding);
-      ends = z ∙ table_zero (ends_to text T n) n (uncrowded (crowded_in text T n)) h ∙ ap (λ (v : Verdict). table_of v (ends_to text T n) n) (sym by_crowding);
-    }
+    pub ended_is : ended ≡ true → (v : Verdict) → v ≡ uncrowded (crowded_in text T n) → v ≡ verdict_in text T n
+    unfolding verdict_in
+    ended_is q v h = let f : lines_end text ≡ true = sym e ∙ q in rw f h
 
-    pub cut_made : {ends' : List ℕ} → Made ≡ crowded_cut text T n → ends' ≡ ends_to text T n → Cuts text T n Made ends'
-    cut_made h z = record {
-      says = h ∙ ap answer_of (sym by_crowding);
-      ends = z ∙ table_kept (ends_to text T n) n (uncrowded (crowded_in text T n)) h ∙ ap (λ (v : Verdict). table_of v (ends_to text T n) n) (sym by_crowding);
-    }
+  abbrev table : Verdict → List ℕ
+  table v = table_of v (ends_to text T n) n
+
+  module _ (r : Result (Unit {0}) Refusal) (says : verdict_of r ≡ verdict_in text T n) {ends' : List ℕ} where
+    pub cut_refused : (f : Refusal) → r ≡ Err f → ends' ≡ replicate n 0 → Cuts text T n (Err f) ends'
+    cut_refused f e z = let s = ap verdict_of (sym e) ∙ says in record { says = s; ends = z ∙ ap table s }
+
+    pub cut_made : (u : Unit {0}) → r ≡ Ok u → ends' ≡ ends_to text T n → Cuts text T n (Ok u) ends'
+    cut_made u e z = let s = ap verdict_of (sym e) ∙ says in record { says = s; ends = z ∙ ap table s }

@@ -8,6 +8,9 @@ use native.Mathlib.Omega.{arith}
 use borrow.Author.Tests.{eqb-true, ne_eqb}
 use lib.Dec.{eqb}
 use lib.ListN.{length, drop, get_or, drop_of_length-le}
+use Rattle.std.specs.List.{slice_get}
+use Rattle.std.specs.Prelude.{Some, None}
+use Rattle.std.proofs.lemmas.Option.{get_or_from_slice_get, slice_get-get_or}
 use lib.Seq.{drop-cons, drop-drop}
 use Rattle.laws.proofs.NatLaws.{le_or_lt}
 use Rattle.laws.proofs.RunLaws.{past_end, past_fails, past_least, past_most, past_run, past_step}
@@ -86,16 +89,18 @@ module _ (text : Bytes) where
 
 -- ---- the last line
 
-pub last_none : (text : Bytes) → length text ≡ 0 → true ≡ lines_end text
+pub last_none : (text : Bytes) → None ≡ slice_get text (length text - 1) → true ≡ lines_end text
 unfolding lines_end
 last_none [] e = refl
-last_none (b ∷ t) e = absurd (omega arith)
+last_none (b ∷ t) e = let h = slice_get-get_or (b ∷ t) (length (b ∷ t) - 1) 0 (omega arith) in cc
 
 last_byte : (b : ℕ) (t : Bytes) → eqb (get_or (b ∷ t) (length t) 0) 10 ≡ lines_end (b ∷ t)
 unfolding lines_end
 last_byte b [] = refl
 last_byte b (c ∷ t) = last_byte c t
 
-pub last_line : (text : Bytes) → (length text ≡ 0 → ⊥) → eqb (get_or text (length text - 1) 0) 10 ≡ lines_end text
-last_line [] h = absurd (h refl)
-last_line (b ∷ t) h = let e : length (b ∷ t) - 1 ≡ length t = omega arith in ap (λ (n : ℕ). eqb (get_or (b ∷ t) n 0) 10) e ∙ last_byte b t
+pub last_some : (text : Bytes) (b : ℕ) → Some b ≡ slice_get text (length text - 1) → eqb b 10 ≡ lines_end text
+last_some [] b e = cc
+last_some (x ∷ t) b e =
+    let n : length (x ∷ t) - 1 ≡ length t = omega arith in
+    ap (λ (v : ℕ). eqb v 10) (sym (get_or_from_slice_get (x ∷ t) (length t) b 0 (sym (e ∙ ap (slice_get (x ∷ t)) n)))) ∙ last_byte x t

@@ -1,13 +1,13 @@
 -- Blocks by the records of a table, which may hold anything.
-use Rattle.std.specs.Prelude.{cond, List, [], ◌∷◌, ◌++◌, ◌≡◌, ℕ, zero, suc, ◌+◌, eqb, ltb, replicate}
+use Rattle.std.specs.Prelude.{Result, Ok, Err, cond, List, [], ◌∷◌, ◌++◌, ◌≡◌, ℕ, zero, suc, ◌+◌, eqb, ltb, replicate}
 use Rattle.std.proofs.Math.Option.{Option, none, some}
-use Rattle.blocks.specs.declared.Cut.{Cut}
-use Rattle.blocks.specs.declared.Cut.TheVariants.{Made, Refused}
 use Rattle.laws.specs.Bytes.{Bytes}
 use Rattle.lexer.specs.Word.{behind_words}
 use Rattle.rearrangement.specs.Blocks.{Verdict, behind_line, can, cannot, lines_end, or_else, uncrowded, unended}
 use Rattle.rearrangement.specs.Layout.{first_word}
+use Rattle.scene.specs.Reason.{reason_number}
 use Rattle.scene.specs.Record.{record_in}
+use Rattle.scene.specs.declared.Refusal.{Refusal}
 
 -- how many words record n has from its name on
 unfoldable pub tail_in : (table : List ℕ) → (n : ℕ) → ℕ
@@ -39,18 +39,16 @@ ends_to text T (suc n) = ends_to text T n ++ block_end_in text T (suc n) ∷ []
 unfoldable pub verdict_in : Bytes → (table : List ℕ) → (n : ℕ) → Verdict
 verdict_in text T n = cond (lines_end text) (uncrowded (crowded_in text T n)) (unended text)
 
-abbrev pub answer_of : Verdict → Cut
-answer_of (cannot n p) = Refused n p
-answer_of can = Made
-
-abbrev pub crowded_cut : Bytes → (table : List ℕ) → (n : ℕ) → Cut
-crowded_cut text T n = answer_of (uncrowded (crowded_in text T n))
+-- the code's answer as a verdict
+abbrev pub verdict_of : Result (Unit {0}) Refusal → Verdict
+verdict_of (Err r) = cannot (reason_number r.reason) r.place
+verdict_of (Ok u) = can
 
 -- the table of ends: zero where the text is refused
 abbrev pub table_of : Verdict → List ℕ → (n : ℕ) → List ℕ
 table_of (cannot c p) ends n = replicate n 0
 table_of can ends n = ends
 
-pub record Cuts (text : Bytes) (T : List ℕ) (n : ℕ) (r : Cut) (ends' : List ℕ) : Type 0 where
-  pub says : r ≡ answer_of (verdict_in text T n)
+pub record Cuts (text : Bytes) (T : List ℕ) (n : ℕ) (r : Result (Unit {0}) Refusal) (ends' : List ℕ) : Type 0 where
+  pub says : verdict_of r ≡ verdict_in text T n
   pub ends : ends' ≡ table_of (verdict_in text T n) (ends_to text T n) n

@@ -1,17 +1,12 @@
 // Where the blocks of a text end, one for each record of its table. Tables may hold anything.
 #![tactic(auto)]
 
-ghost use Rattle.std.specs.Prelude.{◌≡◌, length, replicate};
-ghost use Rattle.rearrangement.specs.Blocks.{behind_line, lines_end};
+ghost use Rattle.std.specs.Prelude.{◌≡◌, length};
+ghost use Rattle.rearrangement.specs.Blocks.{behind_line, lines_end, uncrowded};
 ghost use Rattle.rearrangement.specs.Layout.{first_word};
-ghost use Rattle.blocks.specs.Code.{Cuts, crowded_cut, end_in, ends_to, tail_in};
+ghost use Rattle.blocks.specs.Code.{Cuts, crowded_in, end_in, ends_to, tail_in, verdict_in, verdict_of};
 
-// The text can be cut, or why not, and where.
-#[derive(Clone, Copy)]
-pub enum Cut {
-    Made,
-    Refused(u32, usize),
-}
+use scene::{Reason, Refusal};
 
 // How many words record n has from its name on.
 fn tail_words(records: &[u32], n: usize) -> usize
@@ -41,10 +36,7 @@ fn behind_line(text: &[u8], at: usize) -> usize
     ensures { result ≡ behind_line text.now at }
 {
     let end = lexer::line_end(text, at);
-    if end < text.len() {
-        return end + 1;
-    }
-    text.len()
+    end.saturating_add(1).min(text.len())
 }
 
 // The first place from `at` on that is neither blank nor in a comment, or the text's length.
@@ -65,65 +57,62 @@ fn first_word(text: &[u8], at: usize) -> usize
 fn lines_end(text: &[u8]) -> bool
     ensures { result ≡ lines_end text.now }
 {
-    if text.len() == 0 {
-        return true;
+    match text.last() {
+        Some(b) => *b == b'\n',
+        None => true,
     }
-    let last = text.len() - 1;
-    text[last] == 10
 }
 
-// Whether some record begins on the line on which the one before it ends.
-fn crowding(text: &[u8], records: &[u32], count: usize) -> Cut
-    ensures { result ≡ crowded_cut text.now records.now count }
+// Refuses a text in which some record begins on the line on which the one before it ends.
+fn check_crowding(text: &[u8], records: &[u32], count: usize) -> Result<(), Refusal>
+    ensures { verdict_of result ≡ uncrowded (crowded_in text.now records.now count) }
 {
-    let mut n = 1;
-    while n < count {
+    for n in 1..count {
         let end = end_of(text, records, n);
         let start = first_word(text, end);
         if start < behind_line(text, end) {
-            return Cut::Refused(34, start);
+            return Err(Refusal {
+                reason: Reason::LineOfTwo,
+                place: start,
+            });
         }
-        n += 1;
     }
-    Cut::Made
+    Ok(())
+}
+
+// Whether the text can be cut, or why not, and where.
+fn check(text: &[u8], records: &[u32], count: usize) -> Result<(), Refusal>
+    ensures { verdict_of result ≡ verdict_in text.now records.now count }
+{
+    if lines_end(text) {
+        return check_crowding(text, records, count);
+    }
+    Err(Refusal {
+        reason: Reason::LastLineOpen,
+        place: text.len(),
+    })
 }
 
 fn put_ends(text: &[u8], records: &[u32], ends: &mut [usize])
     ensures { ends.new ≡ ends_to text.now records.now (length ends.old) }
 {
-    let mut i = 0;
-    while i < ends.len() {
-        ends[i] = behind_line(text, end_of(text, records, i + 1));
-        i += 1;
-    }
-}
-
-fn clear(ends: &mut [usize])
-    ensures { ends.new ≡ replicate (length ends.old) 0 }
-{
-    let mut i = 0;
-    while i < ends.len() {
-        ends[i] = 0;
-        i += 1;
+    for (i, end) in ends.iter_mut().enumerate() {
+        *end = behind_line(text, end_of(text, records, i + 1));
     }
 }
 
 // Where the blocks of the first records end, as many as the table takes; a refusal zeroes it.
-pub fn block_ends(text: &[u8], records: &[u32], ends: &mut [usize]) -> Cut
+pub fn block_ends(text: &[u8], records: &[u32], ends: &mut [usize]) -> Result<(), Refusal>
     ensures { Cuts text.now records.now (length ends.old) result ends.new }
 {
-    if !lines_end(text) {
-        clear(ends);
-        return Cut::Refused(33, text.len());
-    }
-    match crowding(text, records, ends.len()) {
-        Cut::Refused(reason, place) => {
-            clear(ends);
-            Cut::Refused(reason, place)
+    match check(text, records, ends.len()) {
+        Err(refusal) => {
+            ends.fill(0);
+            Err(refusal)
         }
-        Cut::Made => {
+        Ok(()) => {
             put_ends(text, records, ends);
-            Cut::Made
+            Ok(())
         }
     }
 }

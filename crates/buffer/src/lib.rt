@@ -10,13 +10,9 @@ pub fn put_bytes(out: &mut [u8], at: usize, new: &[u8]) -> usize
     ensures out_after { out.new ≡ put out.old at new.now }
     ensures value { result ≡ behind out.old at new.now }
 {
-    let start = lexer::least(at, out.len());
-    let fit = lexer::least(new.len(), out.len() - start);
-    let mut i = 0;
-    while i < fit {
-        out[start + i] = new[i];
-        i += 1;
-    }
+    let start = at.min(out.len());
+    let fit = new.len().min(out.len() - start);
+    out[start..start + fit].copy_from_slice(&new[..fit]);
     at + fit
 }
 

@@ -3,9 +3,10 @@
 
 fn main(rt: HostRuntime) {
     let left = input::first(&rt);
-    if (input::arg_count(&rt) != left + 2) | input::has_unknown_option(&rt) {
+    if input::arg_count(&rt) != left + 2 || input::has_unknown_option(&rt) {
         output::print(&rt, b"usage: compare [--archive] LEFT RIGHT\n");
         return;
     }
-    saves::compare_arguments(&rt, input::mode(&rt), left, left + 1);
+    let mode = input::mode(&rt);
+    output::noticed(&rt, saves::compare_arguments(&rt, mode, left, left + 1));
 }

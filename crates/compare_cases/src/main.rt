@@ -2,31 +2,27 @@
 // under a line with their names.
 #![tactic(auto)]
 
-use std::rt::Env;
+use std::io;
+use std::rt::{Env, Files};
 
-fn print_name(rt: &(impl Env + Print + Eprint), argument: usize) -> bool {
-    let mut name = [0u8; input::PATH];
-    let n = input::arg(rt, argument, &mut name);
-    output::print(rt, &name[..n])
+fn print_names(rt: &(impl Env + Print), left: usize, right: usize) -> io::Result<()> {
+    rt.write_all(b"scenes=")?;
+    input::write_arg(rt, rt, left)?;
+    rt.write_all(b" ")?;
+    input::write_arg(rt, rt, right)?;
+    rt.write_all(b"\n")
 }
 
-fn print_names(rt: &(impl Env + Print + Eprint), left: usize, right: usize) -> bool {
-    output::print(rt, b"scenes=")
-        && print_name(rt, left)
-        && output::print(rt, b" ")
-        && print_name(rt, right)
-        && output::print(rt, b"\n")
+fn compare_all(rt: &(impl Env + Files + Print)) -> io::Result<()> {
+    let mode = input::mode(rt);
+    let last = input::end(rt) - 1;
+    for left in (input::first(rt)..last).step_by(2) {
+        print_names(rt, left, left + 1)?;
+        saves::compare_arguments(rt, mode, left, left + 1)?;
+    }
+    Ok(())
 }
 
 fn main(rt: HostRuntime) {
-    let mode = input::mode(&rt);
-    let last = input::end(&rt) - 1;
-    for left in (input::first(&rt)..last).step_by(2) {
-        if !print_names(&rt, left, left + 1) {
-            return;
-        }
-        if !saves::compare_arguments(&rt, mode, left, left + 1) {
-            return;
-        }
-    }
+    output::noticed(&rt, compare_all(&rt));
 }

@@ -15,7 +15,7 @@ use Rattle.comparison.proofs.CompareLaws.{compared_most}
 use Rattle.comparison.proofs.LineLaws.{placed, lines_none, lines_some, next_comes, after_fewer}
 use Rattle.comparison.specs.Compare.{State, absent, left, right, changed, alike, state_of, Line, line, lines_for, compared}
 use Rattle.comparison.specs.NextLine.{key_in, place_of, lines_after, answer_in, first_line, next_line, state_in, handed_on, handed}
-use Rattle.comparison.specs.declared.Next.{Next}
+use Rattle.comparison.specs.Next.{Next}
 use Rattle.comparison.specs.declared.Place.{Place}
 use Rattle.comparison.specs.declared.State.{State as CodeState}
 use Rattle.comparison.specs.declared.Place.TheVariants as on

@@ -18,12 +18,12 @@ use Rattle.scene.specs.Told.{Told}
 use Rattle.comparison.specs.Compare.{State, absent, left, right, changed, alike, state_at, state_of, line, lines_for}
 use Rattle.comparison.specs.NextLine.{key_in, place_by, place_of, lines_after, first_line}
 use Rattle.comparison.specs.Steps.{step_in, step_at, step_for}
-use Rattle.comparison.specs.declared.Next.{Next}
+use Rattle.comparison.specs.Next.{Next}
 use Rattle.comparison.specs.declared.Place.{Place}
 use Rattle.comparison.specs.declared.State.{State as CodeState}
-use Rattle.comparison.specs.declared.Step.{Step}
-use Rattle.comparison.specs.declared.Next.TheVariants as next
-use Rattle.comparison.specs.declared.Step.TheVariants as step
+use Rattle.comparison.specs.Step.{Step}
+use Rattle.comparison.specs.Next as next
+use Rattle.comparison.specs.Step as step
 
 -- ---- the line of a key
 

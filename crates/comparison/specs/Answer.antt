@@ -1,9 +1,9 @@
 -- The lines of a comparison: "a definition provides this paper's number and values for each of its cases".
 use Rattle.std.specs.Prelude.{List, [], ◌∷◌, ℕ}
-use Rattle.comparison.specs.declared.Next.{Next}
+use Rattle.comparison.specs.Next.{Next}
 use Rattle.comparison.specs.declared.Place.{Place}
 use Rattle.comparison.specs.declared.State.{State}
-use Rattle.comparison.specs.declared.Next.TheVariants as next
+use Rattle.comparison.specs.Next as next
 use Rattle.comparison.specs.declared.Place.TheVariants as on
 use Rattle.comparison.specs.declared.State.TheVariants as is
 

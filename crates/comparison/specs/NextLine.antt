@@ -4,10 +4,10 @@ use Rattle.keys.specs.After.{after}
 use Rattle.keys.specs.Key.{Key, key_of, keys_of, found}
 use Rattle.scene.specs.Told.{Told}
 use Rattle.comparison.specs.Compare.{State, absent, left, right, changed, alike, Line, lines_for}
-use Rattle.comparison.specs.declared.Next.{Next}
+use Rattle.comparison.specs.Next.{Next}
 use Rattle.comparison.specs.declared.Place.{Place}
 use Rattle.comparison.specs.declared.State.{State as CodeState}
-use Rattle.comparison.specs.declared.Next.TheVariants as next
+use Rattle.comparison.specs.Next as next
 use Rattle.comparison.specs.declared.Place.TheVariants as on
 use Rattle.comparison.specs.declared.State.TheVariants as is
 

@@ -2,7 +2,7 @@
 use mathlib.Core.Bool.{Bool, true, false, ◌&&◌, and-true, and-false}
 use mathlib.Core.List.{List, [], ◌∷◌}
 use mathlib.Core.Path.{◌≡◌, refl, ap, sym, ◌∙◌}
-use Prim.Native.Nat.{ℕ, zero, suc, ◌-◌, ◌≤◌, ◌<◌}
+use Prim.Native.Nat.{ℕ, zero, suc, ◌≤◌, ◌<◌}
 use native.Mathlib.Omega.{arith}
 use borrow.Author.Tests.{eq-eqb, ne_eqb}
 use lib.Dec.{eqb}
@@ -67,10 +67,10 @@ module _ (a b : Bytes) (i j : ℕ) where
     words_stop zero h g = absurd (omega arith)
     words_stop (suc n) h g = rw (word_is ∙ g)
 
-    pub words_step : (n p q : ℕ) → 0 < n → r ≡ true → p ≡ word_end a i → q ≡ word_end b j → same_words (words_from a p (n - 1)) (words_from b q (n - 1)) ≡ same_words (words_from a i n) (words_from b j n)
+    pub words_step : (n m p q : ℕ) → n ≡ suc m → r ≡ true → p ≡ word_end a i → q ≡ word_end b j → same_words (words_from a p m) (words_from b q m) ≡ same_words (words_from a i n) (words_from b j n)
     unfolding same_words words_from
-    words_step zero p q h g x y = absurd (omega arith)
-    words_step (suc n) p q h g x y = let m : suc n - 1 ≡ n = omega arith in (λ k. same_words (words_from a (x k) (m k)) (words_from b (y k) (m k))) ∙ rw (word_is ∙ g)
+    words_step zero m p q h g x y = absurd (omega arith)
+    words_step (suc n) m p q h g x y = let z : m ≡ n = omega arith in (λ k. same_words (words_from a (x k) (z k)) (words_from b (y k) (z k))) ∙ rw (word_is ∙ g)
 
 -- a different count of words
 words_count : (a b : Bytes) (i j n m : ℕ) → (n ≡ m → ⊥) → same_words (words_from a i n) (words_from b j m) ≡ false
@@ -137,13 +137,9 @@ module _ (a : Bytes) (ra : List ℕ) (m : ℕ) (b : Bytes) (rb : List ℕ) (n : 
   pub kinds_agree : (x y : ℕ) (s : Bool) → x ≡ (record_in ra m).type → y ≡ (record_in rb n).type → x ≡ y → s ≡ same_words (strings_of a (record_in ra m)) (strings_of b (record_in rb n)) → s ≡ same_but_links a (record_in ra m) b (record_in rb n)
   kinds_agree x y s p q h e = rw (eq-eqb (record_in ra m).type (record_in rb n).type (sym p ∙ h ∙ q)) e
 
-  module _ (g : Bool) (e : g ≡ same_but_links a (record_in ra m) b (record_in rb n)) where
-    pub rest_differs : g ≡ false → false ≡ bare
-    rest_differs h = sym (tests ∙ rw (sym e ∙ h))
-
-    module _ (h : g ≡ true) (p : Bool) (f : p ≡ linked (record_in ra m).target (record_in rb n).target) where
-      pub targets_differ : p ≡ false → false ≡ bare
-      targets_differ k = sym (tests ∙ rw (sym e ∙ h, sym f ∙ k))
-
-      pub all_agree : p ≡ true → (q : Bool) → q ≡ linked (record_in ra m).modifier (record_in rb n).modifier → q ≡ bare
-      all_agree k q z = z ∙ sym (tests ∙ rw (sym e ∙ h, sym f ∙ k))
+  -- by what each test came to, and what the ones before it did
+  pub all_tests : (x y w : Bool) → x ≡ same_but_links a (record_in ra m) b (record_in rb n) → y ≡ (x && linked (record_in ra m).target (record_in rb n).target) → w ≡ (y && linked (record_in ra m).modifier (record_in rb n).modifier) → w ≡ bare
+  all_tests x y w e f g =
+      g
+      ∙ ap (λ (t : Bool). t && linked (record_in ra m).modifier (record_in rb n).modifier) (f ∙ ap (λ (t : Bool). t && linked (record_in ra m).target (record_in rb n).target) e)
+      ∙ sym tests

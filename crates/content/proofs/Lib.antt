@@ -1,1 +1,2 @@
+pub mod AndLaws
 pub mod ContentLaws

@@ -1,2 +1,3 @@
 -- To be believed.
 pub mod Content
+pub mod Scene

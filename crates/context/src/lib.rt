@@ -13,13 +13,10 @@ use table::{KIND, REAL, REALS, STRING, STRINGS};
 fn is_looked_up(phase: Phase, word: &[u8]) -> bool
     ensures { result ≡ is_looked_up phase word.now }
 {
-    if let Phase::Idle = phase {
-        return !lexer::same(word, b"void");
-    }
-    if let Phase::Target = phase {
-        true
-    } else {
-        false
+    match phase {
+        Phase::Idle => !lexer::same(word, b"void"),
+        Phase::Target => true,
+        _ => false,
     }
 }
 
@@ -48,16 +45,17 @@ fn look_up(
 pub fn source_of(records: &[u32], number: usize) -> Draft
     ensures { result ≡ draft_in records.now number }
 {
-    let mut d = linked(0);
     if number == 0 {
-        return d;
+        return linked(0);
     }
-    d.kind = table::field(records, number, KIND);
-    d.string = table::field(records, number, STRING);
-    d.strings = table::field(records, number, STRINGS);
-    d.real = table::field(records, number, REAL);
-    d.reals = table::field(records, number, REALS);
-    d
+    Draft {
+        kind: table::field(records, number, KIND),
+        string: table::field(records, number, STRING),
+        strings: table::field(records, number, STRINGS),
+        real: table::field(records, number, REAL),
+        reals: table::field(records, number, REALS),
+        ..linked(0)
+    }
 }
 
 // The real that stands `j` before the next one.
@@ -74,10 +72,10 @@ pub fn back(reals: &[f64], used: usize, j: usize) -> f64
 fn real_before(phase: Phase, reals: &[f64], used: usize, j: usize) -> f64
     ensures { result ≡ real_before phase reals.now used j }
 {
-    if let Phase::Real = phase {
-        return back(reals, used, j);
+    match phase {
+        Phase::Real => back(reals, used, j),
+        _ => 0.0,
     }
-    0.0
 }
 
 // What a step may look at beside the word, which stands at `place`.

@@ -8,9 +8,8 @@ use borrow.Author.Tests.{le-leb, lt-leb}
 use lib.Dec.{leb}
 use lib.Ieee.{Float}
 use lib.ListN.{length, length-replicate, replicate}
-use Rattle.driver.specs.Ending.{Ends, ending, index_after}
+use Rattle.driver.specs.Ending.{Accepted, Ends, Refused, ending, index_after}
 use Rattle.progress.specs.Invariant.{Accepts, Inv, result}
-use Rattle.driver.specs.declared.End.TheVariants.{Accepted, Refused}
 use Rattle.index.proofs.ReportLaws.{tally_is}
 use Rattle.index.proofs.TableLaws.{lent_none}
 use Rattle.index.specs.Lent.{lent, tally}

@@ -2,16 +2,17 @@
 // tables.
 #![tactic(auto)]
 
-ghost use Rattle.driver.specs.Ending.{Ends};
+ghost use Rattle.driver.specs.Ending.{Ends, end_of};
 
-use scene::Mode;
+use scene::{Mode, Reason, Refusal};
 use statement::Step;
 
-// How reading ends: accepted with the counts of primitives, of reals and of entries looked at, or refused with reason and place.
-#[derive(Clone, Copy)]
-pub enum End {
-    Accepted(usize, usize, u32),
-    Refused(u32, usize),
+// What an accepted text counts: its primitives and their reals, and the entries of the index looked at for it.
+#[derive(Clone, Copy, PartialEq, Eq, Debug)]
+pub struct Accepted {
+    pub primitives: usize,
+    pub reals: usize,
+    pub looked: u32,
 }
 
 // Reads a scene text into the lent tables, which it clears first, and again after a refusal. An index of under 2,048 entries is
@@ -22,12 +23,15 @@ pub fn run(
     records: &mut [u32],
     reals: &mut [f64],
     index: &mut [u32],
-) -> End
-    ensures { Ends mode text.now records.old reals.old index.old result records.new reals.new index.new }
+) -> Result<Accepted, Refusal>
+    ensures { Ends mode text.now records.old reals.old index.old (end_of result) records.new reals.new index.new }
 {
     table::clear_all(records, reals, index);
     if table::MOST_BYTES < text.len() {
-        return End::Refused(1, 0);
+        return Err(Refusal {
+            reason: Reason::TextTooLong,
+            place: 0,
+        });
     }
     let settings = table::settings_for(mode, records.len(), reals.len());
     let mut s = statement::between(0, 0, 0, 0);
@@ -38,24 +42,26 @@ pub fn run(
                 s = t;
             }
             Step::Real(t, x) => {
-                let at = s.used;
-                reals[at] = x;
+                reals[s.used] = x;
                 s = t;
             }
             Step::Last(t, x) => {
-                let at = s.used;
-                reals[at] = x;
+                reals[s.used] = x;
                 s = linker::enter(text, records, index, t);
             }
             Step::Complete(t) => {
                 s = linker::enter(text, records, index, t);
             }
-            Step::Refused(reason, place) => {
+            Step::Refused(refusal) => {
                 table::clear_all(records, reals, index);
-                return End::Refused(reason, place);
+                return Err(refusal);
             }
             Step::Ended => {
-                return End::Accepted(s.count, s.used, s.looked);
+                return Ok(Accepted {
+                    primitives: s.count,
+                    reals: s.used,
+                    looked: s.looked,
+                });
             }
         }
     }

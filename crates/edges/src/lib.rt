@@ -17,13 +17,6 @@ pub enum Dropped {
     Z,
 }
 
-// Whether an odd number of edges is crossed, where all of them were worked out.
-#[derive(Clone, Copy)]
-pub struct Edges {
-    pub worked: bool,
-    pub odd: bool,
-}
-
 // The product of the two ends of an edge.
 pub fn cross_of(a: Vector, b: Vector) -> Vector
     ensures { result ≡ cross (edge a b) }
@@ -51,6 +44,7 @@ pub fn is_zero(n: Vector) -> bool
     (n.x == 0.0) & (n.y == 0.0) & (n.z == 0.0)
 }
 
+// Not `f64::abs`, which makes 0 of -0: `magnitude` leaves -0 as it is.
 fn magnitude_of(t: f64) -> f64
     ensures { result ≡ magnitude t }
 {
@@ -100,8 +94,8 @@ fn second_of(a: Dropped, v: Vector) -> f64
     }
 }
 
-// A counting edge from its lower end to its upper one.
-fn worked_out(a: Dropped, p: Vector, l: Vector, u: Vector) -> Edges
+// Whether a counting edge is crossed, from its lower end to its upper one.
+fn worked_out(a: Dropped, p: Vector, l: Vector, u: Vector) -> Option<bool>
     ensures { crossed_of result ≡ worked_out (axis_of a) p l u }
 {
     let g = first_of(a, l);
@@ -110,28 +104,22 @@ fn worked_out(a: Dropped, p: Vector, l: Vector, u: Vector) -> Edges
     let wide = step(first_of(a, u) - g);
     let high = step(second_of(a, u) - h);
     let at = step(g + step(step(up * wide) / high));
-    Edges {
-        worked: is_finite(at),
-        odd: first_of(a, p) < at,
-    }
+    is_finite(at).then_some(first_of(a, p) < at)
 }
 
 // An edge by its lower end and its upper one: none but a counting edge is worked out.
-fn between_ends(a: Dropped, p: Vector, l: Vector, u: Vector) -> Edges
+fn between_ends(a: Dropped, p: Vector, l: Vector, u: Vector) -> Option<bool>
     ensures { crossed_of result ≡ between (axis_of a) p l u }
 {
     let h = second_of(a, p);
     if (second_of(a, l) <= h) & (h < second_of(a, u)) {
         return worked_out(a, p, l, u);
     }
-    Edges {
-        worked: true,
-        odd: false,
-    }
+    Some(false)
 }
 
-// One edge.
-pub fn crossed_edge(a: Dropped, p: Vector, from: Vector, to: Vector) -> Edges
+// Whether one edge is crossed; none where a step of it is NaN or infinite.
+pub fn crossed_edge(a: Dropped, p: Vector, from: Vector, to: Vector) -> Option<bool>
     ensures { crossed_of result ≡ crossed (axis_of a) p (edge from to) }
 {
     let s = second_of(a, from);
@@ -142,8 +130,5 @@ pub fn crossed_edge(a: Dropped, p: Vector, from: Vector, to: Vector) -> Edges
     if t < s {
         return between_ends(a, p, to, from);
     }
-    Edges {
-        worked: true,
-        odd: false,
-    }
+    Some(false)
 }

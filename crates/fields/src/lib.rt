@@ -22,9 +22,7 @@ pub fn put_kind(out: &mut [u8], at: usize, kind: u32) -> usize
     ensures out_after { out.new ≡ put out.old at (kind_field kind) }
     ensures value { result ≡ behind out.old at (kind_field kind) }
 {
-    let name = type_names::type_name(kind);
-    let bytes = name.0;
-    put_text(out, at, b" type=", lexer::part(&bytes, 0, name.1))
+    put_text(out, at, b" type=", type_names::type_name(kind))
 }
 
 // Puts a line's last number, and the line's end.

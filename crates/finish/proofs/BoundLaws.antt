@@ -9,8 +9,7 @@ use lib.Dec.{eqb, ltb}
 use Rattle.table.specs.Question.{number_refusal}
 use Rattle.table.specs.View.{View, view_of}
 use Rattle.finish.specs.Walk.{at_link, at_type, walk_from, finish_of}
-use Rattle.finish.specs.declared.Finish.{Finish}
-use Rattle.finish.specs.declared.Finish.TheVariants.{Reached, Refused}
+use Rattle.finish.specs.Finish.{Finish, Reached, Refused}
 use Rattle.scene.specs.Types.{is_material, is_modifier}
 
 -- the count of links of either answer

@@ -14,8 +14,7 @@ use Rattle.sides.specs.Read.{read}
 use Rattle.table.proofs.ImageLaws.{image_row, number_fine}
 use Rattle.table.specs.View.{view_of}
 use Rattle.finish.specs.Walk.{numbers_of, at_link, at_type, walk_from, finish_of}
-use Rattle.finish.specs.declared.Finish.{Finish}
-use Rattle.finish.specs.declared.Finish.TheVariants.{Reached, Refused}
+use Rattle.finish.specs.Finish.{Finish, Reached, Refused}
 use Rattle.scene.proofs.GivesLaws.{gives_by_type}
 use Rattle.scene.proofs.MeaningLaws.{IsType, NoSurface, not_surface, own_type}
 use Rattle.scene.proofs.PropertyLaws.{accepted_linked}

@@ -37,9 +37,9 @@ module _ (text : Bytes) (place len : ℕ) where
       go false h q = absurd (omega (arith, q))
 
 module _ (text : Bytes) (table : List ℕ) (count n : ℕ) where
-  pub refusal_number : (number_refusal table count n ≡ 0 → ⊥) → number_refusal table count n ≡ name_refusal text table count n
+  pub refusal_first : (number_refusal table count n ≡ 0 → ⊥) → number_refusal table count n ≡ name_refusal text table count n
   unfolding name_refusal
-  refusal_number h = rw (ne_eqb (number_refusal table count n) 0 h)
+  refusal_first h = rw (ne_eqb (number_refusal table count n) 0 h)
 
   pub refusal_test : (place len : ℕ) → number_refusal table count n ≡ 0 → place ≡ field_in table n 3 → len ≡ field_in table n 4 → name_test text place len ≡ name_refusal text table count n
   unfolding name_refusal field_in record_in

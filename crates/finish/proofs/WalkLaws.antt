@@ -9,10 +9,8 @@ use Rattle.finish.specs.Follow.{Follows, reached_of}
 use Rattle.table.specs.Question.{number_refusal}
 use Rattle.table.specs.View.{View, view_of}
 use Rattle.finish.specs.Walk.{at_link, at_type, finish_of, walk_from}
-use Rattle.finish.specs.declared.Finish.{Finish}
-use Rattle.finish.specs.declared.Finish.TheVariants.{Reached, Refused}
-use Rattle.finish.specs.declared.Link.{Link}
-use Rattle.finish.specs.declared.Link.TheVariants.{Ended, On}
+use Rattle.finish.specs.Finish.{Finish, Reached, Refused}
+use Rattle.finish.specs.Follow.{Link, Ended, On}
 use Rattle.scene.specs.Record.{field_in}
 use Rattle.scene.specs.Types.{is_material, is_modifier}
 use Rattle.table.proofs.QuestionLaws.{modifier_field, type_field}

@@ -1,11 +1,14 @@
 -- One link of the finish walk.
 use Rattle.std.specs.Prelude.{cond, ◌≡◌, ℕ, ◌+◌, ◌-◌, ◌<◌}
 use Rattle.finish.specs.Walk.{walk_from}
-use Rattle.finish.specs.declared.Finish.TheVariants.{Reached, Refused}
-use Rattle.finish.specs.declared.Link.{Link}
-use Rattle.finish.specs.declared.Link.TheVariants.{Ended, On}
+use Rattle.finish.specs.Finish.{Finish, Reached, Refused}
 use Rattle.scene.specs.Types.{is_material, is_modifier}
 use Rattle.table.specs.View.{View}
+
+-- what a link leads to: the walk ends, or goes on from a primitive
+pub data Link : Type 0 where
+  Ended : (finish : Finish) → Link
+  On : (from : ℕ) → Link
 
 -- what primitive m of type t comes to, reached by k links
 unfoldable pub reached_of : (t m k : ℕ) → Link

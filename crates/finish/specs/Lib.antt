@@ -1,6 +1,8 @@
 -- To be believed.
+pub mod Finish
 pub mod Question
 pub mod Walk
 pub mod Meaning
 -- Inner models of the proofs.
 pub mod Follow
+pub mod Answer

@@ -4,8 +4,7 @@ use Rattle.laws.specs.Bytes.{Bytes, same}
 use Rattle.scene.specs.Links.{hits, own_body, type_in}
 use Rattle.scene.specs.Statement.{Statement, void}
 use Rattle.scene.specs.Types.{is_material}
-use Rattle.finish.specs.declared.Finish.{Finish}
-use Rattle.finish.specs.declared.Finish.TheVariants.{Reached}
+use Rattle.finish.specs.Finish.{Finish, Reached}
 
 -- The first material reached from a modifier w, after k links, among the statements above it, latest first: a modifier `void`
 -- ends the walk with 0; any other leads to the latest statement that gives the name, whose type is its target's if it is an alias; only

@@ -1,8 +1,7 @@
 -- The finish walk: a chain of modifier links.
 use Rattle.std.specs.Prelude.{cond, List, ℕ, zero, suc, eqb, ltb}
 use Rattle.scene.specs.Types.{is_material, is_modifier}
-use Rattle.finish.specs.declared.Finish.{Finish}
-use Rattle.finish.specs.declared.Finish.TheVariants.{Reached, Refused}
+use Rattle.finish.specs.Finish.{Finish, Reached, Refused}
 use Rattle.table.specs.Question.{number_refusal}
 use Rattle.table.specs.View.{View, view_of}
 

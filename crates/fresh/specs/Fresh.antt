@@ -1,11 +1,21 @@
 -- Lent tables beside a fresh reading of the text.
-use Rattle.std.specs.Prelude.{Bool, cond, ◌&&◌, List, ℕ, Float, length}
+use Rattle.std.specs.Prelude.{Result, Ok, Err, Bool, cond, ◌&&◌, List, ℕ, Float, length}
 use Rattle.bits.specs.Bits.{same_reals}
 use Rattle.laws.specs.Bytes.{Bytes, same}
+use Rattle.scene.specs.Reason.{reason_number}
 use Rattle.scene.specs.Reading.{Reading, refused, accepted}
 use Rattle.scene.specs.Record.{record_image, real_image}
-use Rattle.fresh.specs.declared.Fresh.{Fresh}
-use Rattle.fresh.specs.declared.Fresh.TheVariants.{Same, Refused}
+use Rattle.scene.specs.declared.Refusal.{Refusal}
+
+-- the tables are those of a fresh reading of so many primitives; or why not
+pub data Fresh : Type 0 where
+  Same : (primitives : ℕ) → Fresh
+  Refused : (reason place : ℕ) → Fresh
+
+-- what the code answers
+abbrev pub answer_of : Result ℕ Refusal → Fresh
+answer_of (Ok n) = Same n
+answer_of (Err r) = Refused (reason_number r.reason) r.place
 
 -- "The tables, never written, are first compared with a fresh reading at those sizes, reals by bits": whole, with the entries
 -- beyond the used ones

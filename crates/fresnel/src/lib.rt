@@ -7,14 +7,14 @@ ghost use Rattle.fresnel.specs.Fresnel.{coefficient, cos2_squared, fresnel_of, r
 ghost use Rattle.fresnel.specs.Outcome.{outcome_of};
 
 use root::root;
+use scene::Reason;
 use steps::{is_finite, step};
 
-// FTE, FTM and F; total reflection; or a refusal's number.
+// FTE, FTM and F; or total reflection.
 #[derive(Clone, Copy)]
 pub enum Reflection {
-    Coefficients(f64, f64, f64),
+    Coefficients { te: f64, tm: f64, f: f64 },
     Total,
-    Refused(u32),
 }
 
 // The square of the second angle's cosine.
@@ -41,33 +41,33 @@ fn mean(te: f64, tm: f64) -> f64
 }
 
 // With both cosines known.
-fn reflected(cos1: f64, n1: f64, n2: f64, cos2: f64) -> Reflection
+fn reflected(cos1: f64, n1: f64, n2: f64, cos2: f64) -> Result<Reflection, Reason>
     ensures { outcome_of result ≡ reflected cos1 n1 n2 cos2 }
 {
     let te = coefficient(step(n1 * cos1), step(n2 * cos2));
     let tm = coefficient(step(n1 * cos2), step(n2 * cos1));
     let f = mean(te, tm);
     if !is_finite(f) {
-        return Reflection::Refused(20);
+        return Err(Reason::NotFinite);
     }
-    Reflection::Coefficients(te, tm, f)
+    Ok(Reflection::Coefficients { te, tm, f })
 }
 
-pub fn fresnel(cos1: f64, n1: f64, n2: f64) -> Reflection
+pub fn fresnel(cos1: f64, n1: f64, n2: f64) -> Result<Reflection, Reason>
     ensures { outcome_of result ≡ fresnel_of cos1 n1 n2 }
 {
     if !(is_finite(cos1) & is_finite(n1) & is_finite(n2)) {
-        return Reflection::Refused(20);
+        return Err(Reason::NotFinite);
     }
     if !((0.0 <= cos1) & (cos1 <= 1.0) & (0.0 < n1) & (0.0 < n2)) {
-        return Reflection::Refused(21);
+        return Err(Reason::OutOfRange);
     }
     let u = cos2_squared(cos1, n1, n2);
     if !is_finite(u) {
-        return Reflection::Refused(20);
+        return Err(Reason::NotFinite);
     }
     if u < 0.0 {
-        return Reflection::Total;
+        return Ok(Reflection::Total);
     }
     reflected(cos1, n1, n2, step(root(u)))
 }

@@ -9,8 +9,7 @@ use Rattle.grammar.proofs.RefusalLaws.{read_refused}
 use Rattle.grammar.specs.Laws.{WellFormed}
 use Rattle.grammar_reading.specs.Call.{Answers, ReaderGrammar}
 use Rattle.laws.specs.Bytes.{Bytes}
-use Rattle.reader.specs.Answer.{answered}
-use Rattle.reader.specs.declared.Answer.TheVariants.{Accepted, Refused}
+use Rattle.reader.specs.Answer.{Accepted, Refused, answered}
 use Rattle.scene.proofs.TellsLaws.{statements_length}
 use Rattle.scene.specs.Reading.{Entry, Reading, accepted, refused, statements}
 use Rattle.scene.specs.Record.{real_table, reals, settings_for}

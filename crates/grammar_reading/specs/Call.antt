@@ -2,9 +2,7 @@
 use Rattle.std.specs.Prelude.{List, ◌↔◌, ◌≡◌, ℕ, Float, length}
 use Rattle.grammar.specs.Laws.{Refuses, WellFormed}
 use Rattle.laws.specs.Bytes.{Bytes}
-use Rattle.reader.specs.Answer.{Reads}
-use Rattle.reader.specs.declared.Answer.{Answer}
-use Rattle.reader.specs.declared.Answer.TheVariants.{Accepted, Refused}
+use Rattle.reader.specs.Answer.{Accepted, Answer, Reads, Refused}
 use Rattle.scene.specs.Record.{reals, settings_for}
 use Rattle.scene.specs.Statement.{Statement}
 use Rattle.scene.specs.declared.Mode.{Mode}

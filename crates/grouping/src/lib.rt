@@ -19,19 +19,16 @@ fn looked(records: &[u32], classes: &[usize], seen: &[usize], k: usize) -> usize
     requires { Waiting (held_rows records.now classes.now) seen.now k }
     ensures { Looked (held_rows records.now classes.now) seen.now k result }
 {
-    let mut known = seen[k];
-    while known + 1 < k {
+    for known in seen[k]..k - 1 {
         let i = known + 1;
         if seen[i] == i {
-            known = i;
             continue;
         }
         if ties::held(records, classes, i, k) {
             return known;
         }
-        known = i;
     }
-    known
+    k - 1
 }
 
 // The rank of a type.
@@ -61,9 +58,8 @@ fn next(records: &[u32], classes: &[usize], seen: &mut [usize], last: u32) -> us
     ensures { Chose (held_rows records.now classes.now) (type_in records.now) last seen.old seen.new result }
 {
     let mut best = 0;
-    let mut k = 0;
-    while k + 1 < seen.len() {
-        k += 1;
+    for passed in 0..seen.len().saturating_sub(1) {
+        let k = passed + 1;
         if seen[k] == k {
             continue;
         }
@@ -72,9 +68,10 @@ fn next(records: &[u32], classes: &[usize], seen: &mut [usize], last: u32) -> us
         if known + 1 < k {
             continue;
         }
-        if is_better(records, last, best, k) {
-            best = k;
+        if !is_better(records, last, best, k) {
+            continue;
         }
+        best = k;
     }
     best
 }
@@ -85,24 +82,11 @@ fn fill(records: &[u32], classes: &[usize], seen: &mut [usize], order: &mut [usi
     ensures { order.new ≡ grouped (held_rows records.now classes.now) (type_in records.now) (length order.old) }
 {
     let mut last = 0;
-    let mut i = 0;
-    while i < order.len() {
+    for entry in order.iter_mut() {
         let n = next(records, classes, seen, last);
         last = table::field(records, n, table::KIND);
         seen[n] = n;
-        order[i] = n;
-        i += 1;
-    }
-}
-
-// Zeroes a table.
-fn clear(numbers: &mut [usize])
-    ensures { numbers.new ≡ replicate (length numbers.old) 0 }
-{
-    let mut i = 0;
-    while i < numbers.len() {
-        numbers[i] = 0;
-        i += 1;
+        *entry = n;
     }
 }
 
@@ -111,8 +95,8 @@ pub fn order(records: &[u32], classes: &[usize], order: &mut [usize])
     ensures { order.new ≡ filled 0 (length order.old) (grouped (held_rows records.now classes.now) (λ n. (record_in records.now n).type) (min 1024 (length order.old))) }
 {
     let mut seen = [0usize; PLACES];
-    let count = lexer::least(MOST_RECORDS, order.len());
+    let count = MOST_RECORDS.min(order.len());
     let end = count + 1;
-    clear(order);
+    order.fill(0);
     fill(records, classes, &mut seen[..end], &mut order[..count]);
 }

@@ -5,7 +5,7 @@ use Prim.Native.Nat.{ℕ}
 use lib.Ieee.{Float}
 use Rattle.host_joining.specs.Host.{HostJoins}
 use Rattle.join_answer.specs.Answer.{Joins, reason_of, values_of}
-use Rattle.join_answer.specs.declared.Answer.{Answer}
+use Rattle.join_answer.specs.Answer.{Answer}
 use Rattle.joining.specs.Outcome.{Outcome}
 use Rattle.laws.specs.Bytes.{Bytes}
 

@@ -3,10 +3,10 @@
 
 ghost use Rattle.std.specs.Prelude.{◌≡◌};
 ghost use Rattle.host_joining.specs.Host.{HostChecks, HostProposes};
-ghost use Rattle.join_answer.specs.Answer.{reason_of, scene_number, values_of};
+ghost use Rattle.join_answer.specs.Answer.{answer_of, reason_of, scene_number, values_of};
 
-use join_answer::Answer;
-use joining::Scene;
+use join_answer::Joined;
+use joining::{Scene, SceneRefusal};
 
 fn scene_number(scene: Scene) -> usize
     ensures { result ≡ scene_number scene }
@@ -20,19 +20,20 @@ fn scene_number(scene: Scene) -> usize
     }
 }
 
+// The number and the array are those of the calls for C and Rust (`HostProposes`, `HostChecks`).
 // The reason or 0, and the text a refusal names, its place, and the length and counts of an accepted text.
-fn tell_answer(joined: Answer, answer: &mut [usize; 5]) -> u32
-    ensures value { result ≡ reason_of joined }
-    ensures answer_after { answer.new ≡ values_of joined }
+fn tell_answer(joined: Result<Joined, SceneRefusal>, answer: &mut [usize; 5]) -> u32
+    ensures value { result ≡ reason_of (answer_of joined) }
+    ensures answer_after { answer.new ≡ values_of (answer_of joined) }
 {
     match joined {
-        Answer::Joined(len, count, doubles) => {
-            *answer = [0, 0, len, count, doubles];
+        Ok(j) => {
+            *answer = [0, 0, j.len, j.primitives, j.reals];
             0
         }
-        Answer::Refused(scene, reason, place) => {
-            *answer = [scene_number(scene), place, 0, 0, 0];
-            reason
+        Err(why) => {
+            *answer = [scene_number(why.scene), why.refusal.place, 0, 0, 0];
+            why.refusal.reason.number()
         }
     }
 }

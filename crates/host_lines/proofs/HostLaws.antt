@@ -8,8 +8,8 @@ use lib.Ieee.{Float}
 use lib.ListN.{get_or}
 use Rattle.comparison.specs.Answer as line
 use Rattle.comparison.specs.NextLine.{next_line}
-use Rattle.comparison.specs.declared.Next.{Next}
-use Rattle.comparison.specs.declared.Next.TheVariants as next
+use Rattle.comparison.specs.Next.{Next}
+use Rattle.comparison.specs.Next as next
 use Rattle.comparison.specs.declared.Place.{Place}
 use Rattle.comparison.specs.declared.Place.TheVariants as on
 use Rattle.comparison.specs.declared.State.{State}
@@ -17,10 +17,10 @@ use Rattle.keys.specs.Rows.{scene_rows}
 use Rattle.laws.specs.Bytes.{Bytes}
 use Rattle.host_lines.specs.Host.{HostLine, held_in}
 
--- the answer y of the code, which is the line x after the key held, told by its numbers
-pub line_told : (left : Bytes) (lr : List ℕ) (lx : List Float) (right : Bytes) (rr : List ℕ) (rx : List Float) (held : List ℕ) (p : Place) (x y : Next) (out : List ℕ) → x ≡ y → x ≡ next_line (scene_rows left lr lx) (scene_rows right rr rx) p → p ≡ held_in held → out ≡ line.values_of y → HostLine left lr lx right rr rx held (line.kind_number y) out
-line_told left lr lx right rr rx held p x y out d e h v =
-    let f = sym d ∙ e ∙ ap (next_line (scene_rows left lr lx) (scene_rows right rr rx)) h in
+-- the line y after the key held, told by its numbers
+pub line_told : (left : Bytes) (lr : List ℕ) (lx : List Float) (right : Bytes) (rr : List ℕ) (rx : List Float) (held : List ℕ) (p : Place) (y : Next) (out : List ℕ) → y ≡ next_line (scene_rows left lr lx) (scene_rows right rr rx) p → p ≡ held_in held → out ≡ line.values_of y → HostLine left lr lx right rr rx held (line.kind_number y) out
+line_told left lr lx right rr rx held p y out e h v =
+    let f = e ∙ ap (next_line (scene_rows left lr lx) (scene_rows right rr rx)) h in
     record { says = ap line.kind_number f; numbers = v ∙ ap line.values_of f }
 
 module _ (a : List ℕ) where

@@ -2,9 +2,10 @@
 -- small array.
 use Rattle.std.specs.Prelude.{List, [], ◌∷◌, ◌≡◌, ℕ, get_or}
 use Rattle.comparison.specs.Answer as line
-use Rattle.comparison.specs.declared.Next.{Next}
-use Rattle.comparison.specs.declared.Next.TheVariants as next
-use Rattle.ordered.specs.Lines.{Line, Scene, lines_from}
+use Rattle.comparison.specs.Next.{Next}
+use Rattle.comparison.specs.Next as next
+use Rattle.ordered.specs.Lines.{Scene, lines_from}
+use Rattle.comparison.specs.declared.Line.{Line}
 use Rattle.ordered.specs.declared.Cursors.{Cursors}
 
 -- the cursors held: left and right

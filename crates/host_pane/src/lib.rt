@@ -6,7 +6,7 @@ ghost use Rattle.host_pane.specs.Host.{factors_kind, factors_values, transmitted
 ghost use Rattle.pane.specs.Factors.{factors_of};
 ghost use Rattle.pane.specs.Transmissivity.{transmissivity_of};
 
-use pane::{Interreflection, Transmitted};
+use pane::Interreflection;
 
 // The factors of a pane: 0 or the refusal's number, and what goes through and what comes back.
 pub fn tell_factors(te: f64, tm: f64, ct: f64, answer: &mut [f64; 2]) -> u32
@@ -14,13 +14,13 @@ pub fn tell_factors(te: f64, tm: f64, ct: f64, answer: &mut [f64; 2]) -> u32
     ensures answer_after { answer.new ≡ factors_values (factors_of te tm ct) }
 {
     match pane::factors(te, tm, ct) {
-        Interreflection::Both(through, back) => {
+        Ok(Interreflection { through, back }) => {
             *answer = [through, back];
             0
         }
-        Interreflection::Refused(n) => {
-            *answer = [0.0, 0.0];
-            n
+        Err(reason) => {
+            *answer = [0.0; 2];
+            reason.number()
         }
     }
 }
@@ -31,13 +31,13 @@ pub fn tell_transmissivity(t: f64, answer: &mut [f64; 1]) -> u32
     ensures answer_after { answer.new ≡ transmitted_values (transmissivity_of t) }
 {
     match pane::transmissivity(t) {
-        Transmitted::Transmissivity(x) => {
+        Ok(x) => {
             *answer = [x];
             0
         }
-        Transmitted::Refused(n) => {
+        Err(reason) => {
             *answer = [0.0];
-            n
+            reason.number()
         }
     }
 }

@@ -21,6 +21,7 @@ pub fn tell_polygon_above(ray: &[f64; 6], corners: &[f64], least: f64, answer: &
     )
 }
 
+#[tactic(auto, using(hits::proofs::LeastLaws::default_bits))]
 pub fn tell_polygon(ray: &[f64; 6], corners: &[f64], answer: &mut [f64; 1]) -> u32
     ensures value { result ≡ hit_kind (polygon_hit default_least (ray_in ray.now) corners.now) }
     ensures answer_after { answer.new ≡ hit_values (polygon_hit default_least (ray_in ray.now) corners.now) }
@@ -46,6 +47,7 @@ pub fn tell_in_table_above(
     tell_hit(hit, answer)
 }
 
+#[tactic(auto, using(hits::proofs::LeastLaws::default_bits))]
 pub fn tell_in_table(
     ray: &[f64; 6],
     records: &[u32],

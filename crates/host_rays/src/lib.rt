@@ -11,7 +11,8 @@ ghost use Rattle.hits.specs.Sphere.{sphere_hit};
 ghost use Rattle.host_rays.specs.Host.{hit_kind, hit_values, ray_in, reflection_kind, reflection_values, ring_in, sphere_in};
 
 use fresnel::Reflection;
-use hits::{Hit, LEAST, Ray, Ring, Sphere};
+use hits::{LEAST, Ray, Ring, Sphere};
+use scene::Reason;
 use steps::Vector;
 
 fn vector(x: f64, y: f64, z: f64) -> Vector
@@ -20,6 +21,7 @@ fn vector(x: f64, y: f64, z: f64) -> Vector
     Vector { x, y, z }
 }
 
+#[tactic(auto, unfolding(crate::specs::Host::ray_in))]
 pub fn ray_in(a: &[f64; 6]) -> Ray
     ensures { result ≡ ray_in a.now }
 {
@@ -29,6 +31,7 @@ pub fn ray_in(a: &[f64; 6]) -> Ray
     }
 }
 
+#[tactic(auto, unfolding(crate::specs::Host::sphere_in))]
 fn sphere_in(a: &[f64; 4]) -> Sphere
     ensures { result ≡ sphere_in a.now }
 {
@@ -38,6 +41,7 @@ fn sphere_in(a: &[f64; 4]) -> Sphere
     }
 }
 
+#[tactic(auto, unfolding(crate::specs::Host::ring_in))]
 fn ring_in(a: &[f64; 8]) -> Ring
     ensures { result ≡ ring_in a.now }
 {
@@ -50,22 +54,22 @@ fn ring_in(a: &[f64; 8]) -> Ring
 }
 
 // Tells a hit: its kind, and the distance.
-pub fn tell_hit(hit: Hit, answer: &mut [f64; 1]) -> u32
+pub fn tell_hit(hit: Result<Option<f64>, Reason>, answer: &mut [f64; 1]) -> u32
     ensures value { result ≡ hit_kind (outcome_of hit) }
     ensures answer_after { answer.new ≡ hit_values (outcome_of hit) }
 {
     match hit {
-        Hit::At(t) => {
+        Ok(Some(t)) => {
             *answer = [t];
             0
         }
-        Hit::Miss => {
+        Ok(None) => {
             *answer = [0.0];
             1
         }
-        Hit::Refused(n) => {
+        Err(reason) => {
             *answer = [0.0];
-            n
+            reason.number()
         }
     }
 }
@@ -86,6 +90,7 @@ pub fn tell_sphere_above(
     )
 }
 
+#[tactic(auto, using(hits::proofs::LeastLaws::default_bits))]
 pub fn tell_sphere(ray: &[f64; 6], sphere: &[f64; 4], answer: &mut [f64; 1]) -> u32
     ensures value { result ≡ hit_kind (sphere_hit default_least (ray_in ray.now) (sphere_in sphere.now)) }
     ensures answer_after { answer.new ≡ hit_values (sphere_hit default_least (ray_in ray.now) (sphere_in sphere.now)) }
@@ -104,6 +109,7 @@ pub fn tell_ring_above(ray: &[f64; 6], ring: &[f64; 8], least: f64, answer: &mut
     )
 }
 
+#[tactic(auto, using(hits::proofs::LeastLaws::default_bits))]
 pub fn tell_ring(ray: &[f64; 6], ring: &[f64; 8], answer: &mut [f64; 1]) -> u32
     ensures value { result ≡ hit_kind (ring_hit default_least (ray_in ray.now) (ring_in ring.now)) }
     ensures answer_after { answer.new ≡ hit_values (ring_hit default_least (ray_in ray.now) (ring_in ring.now)) }
@@ -117,17 +123,17 @@ pub fn tell_reflection(cos1: f64, n1: f64, n2: f64, answer: &mut [f64; 3]) -> u3
     ensures answer_after { answer.new ≡ reflection_values (fresnel_of cos1 n1 n2) }
 {
     match fresnel::fresnel(cos1, n1, n2) {
-        Reflection::Coefficients(te, tm, f) => {
+        Ok(Reflection::Coefficients { te, tm, f }) => {
             *answer = [te, tm, f];
             0
         }
-        Reflection::Total => {
-            *answer = [0.0, 0.0, 0.0];
+        Ok(Reflection::Total) => {
+            *answer = [0.0; 3];
             1
         }
-        Reflection::Refused(n) => {
-            *answer = [0.0, 0.0, 0.0];
-            n
+        Err(reason) => {
+            *answer = [0.0; 3];
+            reason.number()
         }
     }
 }

@@ -5,11 +5,9 @@ use Prim.Native.Nat.{ℕ}
 use borrow.Author.Tests.{eq-eqb, ne_eqb}
 use lib.Ieee.{Float}
 use Rattle.laws.specs.Bytes.{Bytes}
-use Rattle.reader.specs.Answer.{numbers_of}
-use Rattle.reader.specs.Indexed.{ReadsIndexed}
+use Rattle.reader.specs.Answer.{Answer, numbers_of}
+use Rattle.reader.specs.Indexed.{Indexed, ReadsIndexed}
 use Rattle.reader.specs.Paired.{ReadsPaired}
-use Rattle.reader.specs.declared.Answer.{Answer}
-use Rattle.reader.specs.declared.Indexed.{Indexed}
 use Rattle.scene.specs.Record.{Answer as Numbers}
 use Rattle.scene.specs.declared.Mode.{Mode}
 use Rattle.scene.specs.declared.Mode.TheVariants.{New, Archive}

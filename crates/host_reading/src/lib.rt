@@ -4,7 +4,6 @@
 ghost use Rattle.std.specs.Prelude.{◌≡◌};
 ghost use Rattle.host_reading.specs.Host.{HostReads, HostReadsIndexed, mode_of};
 
-use reader::Answer;
 use scene::Mode;
 
 // The mode of a number: 1 is the archive reading, and any other number the new one.
@@ -17,7 +16,7 @@ pub fn mode_of(number: u32) -> Mode
     Mode::New
 }
 
-// Reads a scene: the reason or 0, and place, primitives, reals.
+// Reads a scene: the reason or 0, and place, primitives, reals. Numbers, as the calls for C and Rust hand them on (`HostReads`).
 pub fn tell_reading(
     mode: u32,
     text: &[u8],
@@ -29,18 +28,19 @@ pub fn tell_reading(
     ensures { HostReads mode text.now records.old reals.old pairs.old result answer.new records.new reals.new pairs.new }
 {
     match reader::read(mode_of(mode), text, records, reals, pairs) {
-        Answer::Accepted(primitives, used) => {
-            *answer = [0, primitives, used];
+        Ok(counts) => {
+            *answer = [0, counts.primitives, counts.reals];
             0
         }
-        Answer::Refused(reason, place) => {
-            *answer = [place, 0, 0];
-            reason
+        Err(refusal) => {
+            *answer = [refusal.place, 0, 0];
+            refusal.reason.number()
         }
     }
 }
 
-// Reads a scene by a lent index: the reason or 0, and place, primitives, reals, and entries looked at.
+// Reads a scene by a lent index: the reason or 0, and place, primitives, reals, and entries looked at. Numbers, as `HostReadsIndexed`
+// has them.
 pub fn tell_indexed(
     mode: u32,
     text: &[u8],
@@ -53,15 +53,14 @@ pub fn tell_indexed(
     ensures { HostReadsIndexed mode text.now records.old reals.old pairs.old index.old result answer.new records.new reals.new pairs.new index.new }
 {
     let r = reader::read_indexed(mode_of(mode), text, records, reals, pairs, index);
-    let told = r.answer;
-    match told {
-        Answer::Accepted(primitives, used) => {
-            *answer = [0, primitives, used, r.looked as usize];
+    match r.answer {
+        Ok(counts) => {
+            *answer = [0, counts.primitives, counts.reals, r.looked as usize];
             0
         }
-        Answer::Refused(reason, place) => {
-            *answer = [place, 0, 0, r.looked as usize];
-            reason
+        Err(refusal) => {
+            *answer = [refusal.place, 0, 0, r.looked as usize];
+            refusal.reason.number()
         }
     }
 }

@@ -6,8 +6,7 @@ use lib.Ieee.{Float}
 use Rattle.host_reading.specs.Host.{mode_of}
 use Rattle.laws.specs.Bytes.{Bytes}
 use Rattle.pair.specs.Both as both
-use Rattle.pair.specs.Both.{ReadsBoth}
-use Rattle.pair.specs.declared.Both.{Both}
+use Rattle.pair.specs.Both.{Both, ReadsBoth}
 use Rattle.scene.specs.declared.Mode.{Mode}
 use Rattle.host_saves.specs.Host.{HostReadsBoth}
 

@@ -5,18 +5,16 @@ ghost use Rattle.std.specs.Prelude.{◌≡◌};
 ghost use Rattle.pair.specs.Both.{side_number};
 ghost use Rattle.host_saves.specs.Host.{HostReadsBoth};
 
-use pair::{Both, Side};
+use pair::{BothCounts, Side};
 
 fn side_number(side: Side) -> usize
     ensures { result ≡ side_number side }
 {
-    match side {
-        Side::Left => 0,
-        Side::Right => 1,
-    }
+    side as usize
 }
 
-// Reads two scenes: the reason or 0, and side, place, and primitives and reals of each.
+// Reads two scenes: the reason or 0, and side, place, and primitives and reals of each. Numbers, as the calls for C and Rust hand them
+// on (`HostReadsBoth`).
 pub fn tell_both(
     mode: u32,
     left: &[u8],
@@ -38,13 +36,20 @@ pub fn tell_both(
         right_records,
         right_reals,
     ) {
-        Both::Read(m, j, n, k) => {
-            *answer = [0, 0, m, j, n, k];
+        Ok(BothCounts { left, right }) => {
+            *answer = [
+                0,
+                0,
+                left.primitives,
+                left.reals,
+                right.primitives,
+                right.reals,
+            ];
             0
         }
-        Both::Refused(side, reason, place) => {
-            *answer = [side_number(side), place, 0, 0, 0, 0];
-            reason
+        Err(refused) => {
+            *answer = [side_number(refused.side), refused.refusal.place, 0, 0, 0, 0];
+            refused.refusal.reason.number()
         }
     }
 }

@@ -5,7 +5,6 @@ ghost use Rattle.std.specs.Prelude.{◌≡◌};
 ghost use Rattle.finish.specs.Question.{name_refusal};
 ghost use Rattle.host_scenes.specs.Host.{finish_reason, finish_values, name_part, word_values};
 
-use finish::Finish;
 use table::{NAME, NAME_LENGTH};
 
 // A primitive's name: the refusal's number or 0, and the name's place and length.
@@ -19,15 +18,18 @@ pub fn tell_name(
     ensures value { result ≡ name_refusal text.now records.now count number }
     ensures answer_after { answer.new ≡ name_part text.now records.now count number }
 {
-    let refusal = finish::name_refusal(text, records, count, number);
-    if refusal != 0 {
-        *answer = [0, 0];
-        return refusal;
+    match finish::name_refusal(text, records, count, number) {
+        Ok(()) => {
+            let place = table::field(records, number, NAME);
+            let len = table::field(records, number, NAME_LENGTH);
+            *answer = [place as usize, len as usize];
+            0
+        }
+        Err(reason) => {
+            *answer = [0, 0];
+            reason.number()
+        }
     }
-    let place = table::field(records, number, NAME);
-    let len = table::field(records, number, NAME_LENGTH);
-    *answer = [place as usize, len as usize];
-    0
 }
 
 // A primitive's finish: the refusal's number or 0, and the material and the links followed.
@@ -42,13 +44,13 @@ pub fn tell_finish(
     ensures answer_after { answer.new ≡ finish_values records.now count number allowance }
 {
     match finish::finish_of(records, count, number, allowance) {
-        Finish::Reached(primitive, links) => {
-            *answer = [primitive, links];
+        Ok(reached) => {
+            *answer = [reached.material, reached.links];
             0
         }
-        Finish::Refused(reason, links) => {
-            *answer = [0, links];
-            reason
+        Err(stopped) => {
+            *answer = [0, stopped.links];
+            stopped.reason.number()
         }
     }
 }

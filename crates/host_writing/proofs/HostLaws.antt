@@ -5,7 +5,7 @@ use Prim.Native.Nat.{ℕ}
 use Rattle.laws.specs.Bytes.{Bytes}
 use Rattle.writer.specs.Answer as written
 use Rattle.writer.specs.Answer.{Outcome, answered, output}
-use Rattle.writer.specs.declared.Answer.{Answer}
+use Rattle.writer.specs.Answer.{Answer}
 use Rattle.host_writing.specs.Host.{HostTold}
 
 -- an answer, told by its numbers

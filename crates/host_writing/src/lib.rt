@@ -2,24 +2,25 @@
 #![tactic(auto)]
 
 ghost use Rattle.std.specs.Prelude.{◌≡◌};
-ghost use Rattle.writer.specs.Answer.{reason_of, values_of};
+ghost use Rattle.writer.specs.Answer.{answer_of, reason_of, values_of};
 ghost use Rattle.host_writing.specs.Host.{HostTold, HostWrites};
 
-use writer::Answer;
+use scene::Refusal;
 
+// The number and the array are those of the calls for C and Rust (`HostWrites`).
 // The answer of a writing call: the reason or 0, and the place of a refusal and the length of the text.
-pub fn tell_answer(written: Answer, answer: &mut [usize; 2]) -> u32
-    ensures value { result ≡ reason_of written }
-    ensures answer_after { answer.new ≡ values_of written }
+pub fn tell_answer(written: Result<usize, Refusal>, answer: &mut [usize; 2]) -> u32
+    ensures value { result ≡ reason_of (answer_of written) }
+    ensures answer_after { answer.new ≡ values_of (answer_of written) }
 {
     match written {
-        Answer::Written(len) => {
+        Ok(len) => {
             *answer = [0, len];
             0
         }
-        Answer::Refused(reason, place) => {
-            *answer = [place, 0];
-            reason
+        Err(refusal) => {
+            *answer = [refusal.place, 0];
+            refusal.reason.number()
         }
     }
 }

@@ -162,19 +162,14 @@ pub name_at : (text : Bytes) (table : List ℕ) (n : ℕ) → (n ≡ 0 → ⊥) 
 unfolding name_in
 name_at text table n h = λ i. part text ((field_at table 3 (lit< tt) n h ∙ name_field table n) i) ((field_at table 4 (lit< tt) n h ∙ length_field table n) i)
 
--- a part of a text, and a word; its start and length are copied first
-module _ (text w : Bytes) (place size start len : ℕ) (s : start ≡ place) (l : len ≡ size) where
-  pub copied_part : (b : Bool) (n : Bytes) → b ≡ same w n → n ≡ part text start len → b ≡ same w (part text place size)
-  copied_part b n e q = e ∙ ap (same w) (q ∙ (λ i. part text (s i) (l i)))
-
-  pub whole_part : (b : Bool) → b ≡ same w (take (start + len - start) (drop start text)) → b ≡ same w (part text place size)
-  whole_part b e = copied_part b (take (start + len - start) (drop start text)) e (let q : start + len - start ≡ len = omega arith in ap (λ (k : ℕ). part text start k) q)
+-- a part of a text, and a word
+module _ (text w : Bytes) (place size : ℕ) where
+  pub whole_part : (b : Bool) → b ≡ same w (take (place + size - place) (drop place text)) → b ≡ same w (part text place size)
+  whole_part b e = e ∙ (let q : place + size - place ≡ size = omega arith in ap (λ (k : ℕ). same w (part text place k)) q)
 
   -- of another length
-  pub other_part : start + len ≤ length text → (len ≡ length w → ⊥) → false ≡ same w (part text place size)
-  other_part f h = copied_part false (part text start len) (sym (same_length w (part text start len) (λ e. h (sym (e ∙ part_length text start len f))))) refl
-
--- ---- the search that is lent an index, or none
+  pub other_part : place + size ≤ length text → (size ≡ length w → ⊥) → false ≡ same w (part text place size)
+  other_part f h = sym (same_length w (part text place size) (λ e. h (sym (e ∙ part_length text place size f))))
 
 module _ (text : Bytes) (table x : List ℕ) (n : ℕ) (w : Bytes) where
   pub sought_plain : length x < 2048 → sought text table x n w ≡ found_plain text table x n w

@@ -22,18 +22,6 @@ pub struct Found {
     pub looked: u32,
 }
 
-fn wide(n: u32) -> usize
-    ensures { result ≡ n }
-{
-    n as usize
-}
-
-fn small(b: u8) -> usize
-    ensures { result ≡ b }
-{
-    b as usize
-}
-
 // What four bytes add to a hash.
 fn four(a: u8, b: u8, c: u8, d: u8) -> u32
     ensures { result ≡ 29791 * a + 961 * b + 31 * c + d }
@@ -55,13 +43,11 @@ fn by_eights(word: &[u8], eights: usize) -> usize
     ensures { Hashed word.now result (eights * 8) }
 {
     let mut h: usize = 0;
-    let mut i = 0;
-    while i < eights {
+    for i in 0..eights {
         let at = i * 8;
         let p = four(word[at], word[at + 1], word[at + 2], word[at + 3]);
         let q = four(word[at + 4], word[at + 5], word[at + 6], word[at + 7]);
         h = with_eight(h, p, q);
-        i += 1;
     }
     h
 }
@@ -85,10 +71,8 @@ fn hash(word: &[u8]) -> usize
     ensures { result ≡ hash word.now }
 {
     let mut h = by_fours(word);
-    let mut i = word.len() / 4 * 4;
-    while i < word.len() {
-        h = (31 * h + small(word[i])) % ENTRIES;
-        i += 1;
+    for i in word.len() / 4 * 4..word.len() {
+        h = (31 * h + word[i] as usize) % ENTRIES;
     }
     h
 }
@@ -97,8 +81,8 @@ fn hash(word: &[u8]) -> usize
 fn is_part(text: &[u8], place: u32, size: u32, word: &[u8]) -> bool
     ensures { result ≡ same word.now (part text.now place size) }
 {
-    let start = wide(place);
-    let len = wide(size);
+    let start = place as usize;
+    let len = size as usize;
     let end = start + len;
     if text.len() < end {
         return lexer::same(word, lexer::part(text, start, len));
@@ -130,9 +114,8 @@ fn probe(text: &[u8], records: &[u32], index: &[u32], word: &[u8]) -> Found
     ensures { result ≡ searched index.now (name_in text.now records.now) word.now }
 {
     let mut entry = hash(word);
-    let mut passed: u32 = 0;
-    while passed < 2047 {
-        let number = wide(index[entry]);
+    for passed in 0..2047u32 {
+        let number = index[entry] as usize;
         if stops(text, records, word, number) {
             return Found {
                 entry,
@@ -141,12 +124,11 @@ fn probe(text: &[u8], records: &[u32], index: &[u32], word: &[u8]) -> Found
             };
         }
         entry = (entry + 1) % ENTRIES;
-        passed += 1;
     }
     Found {
         entry,
-        number: wide(index[entry]),
-        looked: passed + 1,
+        number: index[entry] as usize,
+        looked: 2048,
     }
 }
 

@@ -2,23 +2,42 @@
 // goes by its argument's number; standard input has the number that a first file would have.
 #![tactic(auto)]
 
-ghost use Rattle.std.specs.Prelude.{◌≤◌, length};
+ghost use Rattle.std.specs.Prelude.{◌≤◌, length, IfOk};
 
-use output::ErrorStream;
-use scene::Mode;
+use output::{ErrorStream, Refused};
+use scene::{Mode, Reason};
 use std::env::FillError;
+use std::error::Error;
 use std::fs::File;
-use std::io;
 use std::io::Read;
 use std::rt::{Env, Files};
+use std::{fmt, io};
 
-// How many bytes of the buffer a text has; or why it has none.
-#[derive(Clone, Copy)]
-pub enum Loaded {
-    Text(usize),
+// Why a text has no bytes in the buffer.
+#[derive(Clone, Copy, PartialEq, Eq, Debug)]
+pub enum LoadError {
     TooLong,
     Unreadable,
 }
+
+// What is said of standard input. A text that is too long is refused as the reader would, but has no line.
+impl fmt::Display for LoadError {
+    fn fmt<W: fmt::Write>(&self, f: &mut fmt::Formatter<W>) -> fmt::Result {
+        match self {
+            LoadError::TooLong => TOO_LONG.fmt(f),
+            LoadError::Unreadable => write!(f, "unreadable"),
+        }
+    }
+}
+
+impl Error for LoadError {}
+
+// The refusal of a text that is too long, as the reader gives it.
+pub const TOO_LONG: Refused = Refused {
+    reason: Reason::TextTooLong as u32,
+    place: 0,
+    line: None,
+};
 
 // Enough for any path.
 pub const PATH: usize = 4096;
@@ -40,17 +59,22 @@ pub fn read_full(from: &mut impl Read, bytes: &mut [u8]) -> usize
 
 // Reads an open file up to its end, which has to be seen: a text that a failed read cut short is none. One byte past the
 // buffer tells a text that is too long from one that just fits.
-fn load_from(from: &mut impl Read, text: &mut [u8]) -> Loaded {
+fn load_from(from: &mut impl Read, text: &mut [u8]) -> Result<usize, LoadError>
+    ensures { IfOk result (λ n. n ≤ length text.new) }
+{
     let n = read_full(from, text);
     let mut more = [0u8; 1];
     match from.read(&mut more) {
-        Ok(0) => Loaded::Text(n),
-        Ok(_) if n == text.len() => Loaded::TooLong,
-        _ => Loaded::Unreadable,
+        Ok(0) => Ok(n),
+        Ok(_) if n == text.len() => Err(LoadError::TooLong),
+        _ => Err(LoadError::Unreadable),
     }
 }
 
-pub fn load_standard(rt: &impl Input, text: &mut [u8]) -> Loaded {
+// How many bytes of the buffer the text of standard input has.
+pub fn load_standard(rt: &impl Input, text: &mut [u8]) -> Result<usize, LoadError>
+    ensures { IfOk result (λ n. n ≤ length text.new) }
+{
     load_from(&mut rt.reader(), text)
 }
 
@@ -62,12 +86,9 @@ fn has_argument(rt: &impl Env, number: usize) -> bool {
 
 // How many arguments there are, the program's own name among them.
 pub fn arg_count(rt: &impl Env) -> usize {
-    for number in 0..usize::MAX {
-        if !has_argument(rt, number) {
-            return number;
-        }
-    }
-    usize::MAX
+    (0..usize::MAX)
+        .find(|&number| !has_argument(rt, number))
+        .unwrap_or(usize::MAX)
 }
 
 // Puts an argument at the start of a buffer, and answers its length: 0 for one that does not fit, and where there is none.
@@ -77,17 +98,30 @@ pub fn arg(rt: &impl Env, number: usize, bytes: &mut [u8]) -> usize
     rt.arg(number, bytes).unwrap_or(0)
 }
 
-// Reads the file that an argument names. A name too long for a path counts as empty, which is the name of no file. A path is
-// text: a name that is none is the name of no file either.
-pub fn load_argument(rt: &(impl Env + Files), argument: usize, text: &mut [u8]) -> Loaded {
+// Writes an argument, which need not be text.
+pub fn write_arg(rt: &impl Env, to: &impl Print, number: usize) -> io::Result<()> {
+    let mut bytes = [0u8; PATH];
+    let n = arg(rt, number, &mut bytes);
+    to.write_all(&bytes[..n])
+}
+
+// Reads the file that an argument names, and answers how many bytes of the buffer its text has. A name too long for a path counts as
+// empty, which is the name of no file. A path is text: a name that is none is the name of no file either.
+pub fn load_argument(
+    rt: &(impl Env + Files),
+    argument: usize,
+    text: &mut [u8],
+) -> Result<usize, LoadError>
+    ensures { IfOk result (λ n. n ≤ length text.new) }
+{
     let mut path = [0u8; PATH];
     let n = arg(rt, argument, &mut path);
     let Ok(path) = str::from_utf8(&path[..n]) else {
-        return Loaded::Unreadable;
+        return Err(LoadError::Unreadable);
     };
     match File::open(rt, path) {
         Ok(mut file) => load_from(&mut file, text),
-        Err(_) => Loaded::Unreadable,
+        Err(_) => Err(LoadError::Unreadable),
     }
 }
 
@@ -95,7 +129,7 @@ pub fn load_argument(rt: &(impl Env + Files), argument: usize, text: &mut [u8]) 
 pub fn is_word(rt: &impl Env, argument: usize, word: &[u8]) -> bool {
     let mut bytes = [0u8; 9];
     let n = arg(rt, argument, &mut bytes);
-    lexer::same(lexer::part(&bytes, 0, n), word)
+    &bytes[..n] == word
 }
 
 // Whether the first argument asks for the archive reading.
@@ -106,30 +140,24 @@ fn has_archive(rt: &impl Env) -> bool {
 // How the texts are to be read.
 pub fn mode(rt: &impl Env) -> Mode {
     if has_archive(rt) {
-        return Mode::Archive;
+        Mode::Archive
+    } else {
+        Mode::New
     }
-    Mode::New
 }
 
 // The first text.
 pub fn first(rt: &impl Env) -> usize
     ensures { result ≤ 2 }
 {
-    if has_archive(rt) {
-        return 2;
-    }
-    1
+    if has_archive(rt) { 2 } else { 1 }
 }
 
 // The number behind the last text's, where the first one has a number of at most 3.
 pub fn end_from(rt: &impl Env, first: usize) -> usize
     ensures { 1 ≤ result }
 {
-    let count = arg_count(rt);
-    if count <= lexer::least(first, 3) {
-        return lexer::least(first, 3) + 1;
-    }
-    count
+    arg_count(rt).max(first.min(3) + 1)
 }
 
 // The number behind the last text's.
@@ -143,7 +171,14 @@ fn is_standard(rt: &impl Env, number: usize) -> bool {
     !has_argument(rt, number)
 }
 
-pub fn load(rt: &(impl Env + Files + Input), number: usize, text: &mut [u8]) -> Loaded {
+// How many bytes of the buffer a text has.
+pub fn load(
+    rt: &(impl Env + Files + Input),
+    number: usize,
+    text: &mut [u8],
+) -> Result<usize, LoadError>
+    ensures { IfOk result (λ n. n ≤ length text.new) }
+{
     if is_standard(rt, number) {
         return load_standard(rt, text);
     }
@@ -159,12 +194,7 @@ fn is_option(rt: &impl Env, argument: usize) -> bool {
 
 // Whether an argument is an option, other than a first one that programs know.
 pub fn has_unknown_option(rt: &impl Env) -> bool {
-    for argument in first(rt)..arg_count(rt) {
-        if is_option(rt, argument) {
-            return true;
-        }
-    }
-    false
+    (first(rt)..arg_count(rt)).any(|argument| is_option(rt, argument))
 }
 
 // Writes which file a text is from, and what stands behind its name; nothing for standard input.
@@ -172,66 +202,47 @@ fn write_name(rt: &impl Env, to: &impl Print, number: usize, behind: &[u8]) -> i
     if is_standard(rt, number) {
         return Ok(());
     }
-    let mut name = [0u8; PATH];
-    let n = arg(rt, number, &mut name);
     to.write_all(b"scene=")?;
-    to.write_all(&name[..n])?;
+    write_arg(rt, to, number)?;
     to.write_all(behind)
 }
 
 // The line above what is printed of a text, where there are several behind the first.
-pub fn print_heading_from(rt: &(impl Env + Print + Eprint), first: usize, number: usize) -> bool {
-    if !has_argument(rt, lexer::least(first, 3) + 1) {
-        return true;
+pub fn print_heading_from(rt: &(impl Env + Print), first: usize, number: usize) -> io::Result<()> {
+    if !has_argument(rt, first.min(3) + 1) {
+        return Ok(());
     }
-    output::noticed(rt, write_name(rt, rt, number, b"\n"))
+    write_name(rt, rt, number, b"\n")
 }
 
-pub fn print_heading(rt: &(impl Env + Print + Eprint), number: usize) -> bool {
+pub fn print_heading(rt: &(impl Env + Print), number: usize) -> io::Result<()> {
     print_heading_from(rt, first(rt), number)
 }
 
+// The line of a text that cannot be read, with a file's name in it.
 fn write_unreadable(rt: &impl Env, to: &impl Print, number: usize) -> io::Result<()> {
     write_name(rt, to, number, b" ")?;
-    to.write_all(b"unreadable\n")
+    to.println(LoadError::Unreadable)
 }
 
-// The line of a text that cannot be read. It has a file's name in it, and no heading.
-pub fn print_unreadable(rt: &(impl Env + Print + Eprint), number: usize) -> bool {
-    output::noticed(rt, write_unreadable(rt, rt, number))
+// That line. It has no heading.
+pub fn print_unreadable(rt: &(impl Env + Print), number: usize) -> io::Result<()> {
+    write_unreadable(rt, rt, number)
 }
 
-// The same line on standard error.
-fn say_unreadable(rt: &(impl Env + ErrorStream), number: usize) {
-    let _ = write_unreadable(rt, &rt.error_stream(), number);
-}
-
-// A text's refusal on standard error, with a file's name in it.
-fn say_refusal(
-    rt: &(impl Env + ErrorStream),
-    number: usize,
-    reason: u32,
-    place: usize,
-    line: usize,
-) {
-    let _ = write_name(rt, &rt.error_stream(), number, b" ");
-    output::say_refusal(rt, reason, place, line);
-}
-
-// A refusal on standard output and on standard error too, for a program whose output is taken for a scene.
+// A refusal on standard output and, with a file's name, on standard error too, for a program whose output is taken for a scene.
 pub fn refuse(
-    rt: &(impl Env + Print + Eprint + ErrorStream),
+    rt: &(impl Env + Print + ErrorStream),
     number: usize,
-    reason: u32,
-    place: usize,
-    line: usize,
-) -> bool {
-    say_refusal(rt, number, reason, place, line);
-    output::print_refusal(rt, reason, place, line)
+    refused: Refused,
+) -> io::Result<()> {
+    let _ = write_name(rt, &rt.error_stream(), number, b" ");
+    output::say_refusal(rt, refused);
+    output::print_refusal(rt, refused)
 }
 
 // What cannot be read, said on both likewise.
-pub fn pass_over(rt: &(impl Env + Print + Eprint + ErrorStream), number: usize) -> bool {
-    say_unreadable(rt, number);
+pub fn pass_over(rt: &(impl Env + Print + ErrorStream), number: usize) -> io::Result<()> {
+    let _ = write_unreadable(rt, &rt.error_stream(), number);
     print_unreadable(rt, number)
 }

@@ -2,358 +2,234 @@
 // standard error too, as what is printed may be taken for a scene.
 #![tactic(auto)]
 
-use input::Loaded;
-use join_answer::Answer;
-use joining::{Choice, Scene};
-use output::ErrorStream;
-use reader::read_with_own_tables;
-use scene::Mode;
+use input::LoadError;
+use joining::{Choice, Scene, SceneRefusal};
+use output::{ErrorStream, Refused};
+use scene::{Mode, Reason};
 use std::io;
 use std::rt::{Env, Files};
-use table::{MOST_BYTES, MOST_NUMBERS, MOST_REALS, MOST_RECORDS, first_records};
+use table::{MOST_BYTES, MOST_NUMBERS, MOST_REALS, MOST_RECORDS};
 
 // One byte more than a text may have: a text that is too long fills the room, and its reading refuses it.
 const ROOM: usize = MOST_BYTES + 1;
 
-// A file that cannot be read.
-const UNREADABLE: usize = ROOM + 1;
-
-// How many bytes of the room a file's text has.
-fn load(rt: &(impl Env + Files), argument: usize, text: &mut [u8]) -> usize {
-    match input::load_argument(rt, argument, text) {
-        Loaded::Text(n) => n,
-        Loaded::TooLong => ROOM,
-        Loaded::Unreadable => UNREADABLE,
-    }
+// The base and both hands' texts, and how they are read.
+#[derive(Clone, Copy)]
+struct Texts<'a> {
+    mode: Mode,
+    base: &'a [u8],
+    left: &'a [u8],
+    right: &'a [u8],
 }
 
-fn print_unreadable(rt: &(impl Print + Eprint + ErrorStream), word: &str) {
-    let _ = println!(&rt.error_stream(); "scene={word} unreadable");
-    output::noticed(rt, println!(rt; "scene={word} unreadable"));
+// Where the name of each record stands in another text, and whether it is defined alike there.
+fn matches_in(scene: content::Scene<'_>, other: content::Scene<'_>) -> [usize; MOST_RECORDS] {
+    let mut matches = [0usize; MOST_RECORDS];
+    matching::match_all(scene, other, &mut matches);
+    matches
 }
 
-fn write_name(to: &impl Print, text: &[u8], records: &[u32], n: usize) -> io::Result<()> {
-    to.write_all(b" name=")?;
-    to.write_all(table::name_of(text, records, n))
+fn name_of<'a>(scene: content::Scene<'a>, n: usize) -> &'a [u8] {
+    table::name_of(scene.text, scene.records, n)
 }
 
-fn clashes(choice: Choice) -> bool {
-    match choice {
-        Choice::Left => false,
-        Choice::Right => false,
-        Choice::Clash => true,
-    }
-}
-
-// The first record of left whose name both hands changed differently; 0 for none.
-fn left_clash(left_right: &[usize], left_base: &[usize], right_base: &[usize]) -> usize {
-    for n in 1..=left_right.len() {
-        if clashes(picking::choice_left(left_right, left_base, right_base, n)) {
-            return n;
-        }
-    }
-    0
-}
-
-// The first of right.
-fn right_clash(
-    left_right: &[usize],
-    left_base: &[usize],
-    right_left: &[usize],
-    right_base: &[usize],
-) -> usize {
-    for n in 1..=right_left.len() {
-        if clashes(picking::choice_right(left_right, left_base, right_left, right_base, n)) {
-            return n;
-        }
-    }
-    0
-}
-
-fn records_read(answer: reader::Answer) -> usize {
-    match answer {
-        reader::Answer::Accepted(count, _) => count,
-        reader::Answer::Refused(_, _) => 0,
+// Reads a text into tables. One that is refused has no records.
+fn read<'a>(
+    mode: Mode,
+    text: &'a [u8],
+    records: &'a mut [u32],
+    reals: &'a mut [f64],
+) -> content::Scene<'a> {
+    let count = match reader::read_with_own_tables(mode, text, records, reals) {
+        Ok(counts) => counts.primitives,
+        Err(_) => 0,
+    };
+    content::Scene {
+        text,
+        records: table::first_records(records, count),
+        reals,
     }
 }
 
 // The name that both hands changed differently: left's first, or else right's. Behind a hand's last record there is no name to clash.
-fn write_clash(
-    to: &impl Print,
-    base: &[u8],
-    base_records: &[u32],
-    base_reals: &[f64],
-    left: &[u8],
-    left_records: &[u32],
-    left_reals: &[f64],
-    right: &[u8],
-    right_records: &[u32],
-    right_reals: &[f64],
-) -> io::Result<()> {
-    let mut left_right = [0usize; MOST_RECORDS];
-    let mut left_base = [0usize; MOST_RECORDS];
-    let mut right_left = [0usize; MOST_RECORDS];
-    let mut right_base = [0usize; MOST_RECORDS];
-    matching::match_all(
-        left,
-        left_records,
-        left_reals,
-        right,
-        right_records,
-        right_reals,
-        &mut left_right,
-    );
-    matching::match_all(
-        left,
-        left_records,
-        left_reals,
-        base,
-        base_records,
-        base_reals,
-        &mut left_base,
-    );
-    matching::match_all(
-        right,
-        right_records,
-        right_reals,
-        left,
-        left_records,
-        left_reals,
-        &mut right_left,
-    );
-    matching::match_all(
-        right,
-        right_records,
-        right_reals,
-        base,
-        base_records,
-        base_reals,
-        &mut right_base,
-    );
-    let n = left_clash(&left_right, &left_base, &right_base);
-    if n != 0 {
-        return write_name(to, left, left_records, n);
+fn clashing_name<'a>(
+    base: content::Scene<'a>,
+    left: content::Scene<'a>,
+    right: content::Scene<'a>,
+) -> &'a [u8] {
+    let left_right = matches_in(left, right);
+    let left_base = matches_in(left, base);
+    let right_left = matches_in(right, left);
+    let right_base = matches_in(right, base);
+    let of_left = (1..=MOST_RECORDS).find(|&n| {
+        let choice = picking::choice_left(&left_right, &left_base, &right_base, n);
+        matches!(choice, Choice::Clash)
+    });
+    if let Some(n) = of_left {
+        return name_of(left, n);
     }
-    let m = right_clash(&left_right, &left_base, &right_left, &right_base);
-    write_name(to, right, right_records, m)
+    let of_right = (1..=MOST_RECORDS).find(|&n| {
+        let choice = picking::choice_right(&left_right, &left_base, &right_left, &right_base, n);
+        matches!(choice, Choice::Clash)
+    });
+    of_right.map_or(b"", |n| name_of(right, n))
 }
 
-// What is said of a refusal behind its place: of 30, the name.
-fn write_more(
-    to: &impl Print,
-    mode: Mode,
-    reason: u32,
-    base: &[u8],
-    left: &[u8],
-    right: &[u8],
-) -> io::Result<()> {
-    if reason != 30 {
-        return Ok(());
-    }
+fn write_clash(to: &impl Print, texts: &Texts<'_>) -> io::Result<()> {
     let mut base_records = [0u32; MOST_NUMBERS];
     let mut base_reals = [0.0f64; MOST_REALS];
     let mut left_records = [0u32; MOST_NUMBERS];
     let mut left_reals = [0.0f64; MOST_REALS];
     let mut right_records = [0u32; MOST_NUMBERS];
     let mut right_reals = [0.0f64; MOST_REALS];
-    let bases = records_read(read_with_own_tables(mode, base, &mut base_records, &mut base_reals));
-    let lefts = records_read(read_with_own_tables(mode, left, &mut left_records, &mut left_reals));
-    let rights = records_read(read_with_own_tables(
-        mode,
-        right,
+    let base = read(texts.mode, texts.base, &mut base_records, &mut base_reals);
+    let left = read(texts.mode, texts.left, &mut left_records, &mut left_reals);
+    let right = read(
+        texts.mode,
+        texts.right,
         &mut right_records,
         &mut right_reals,
-    ));
-    write_clash(
-        to,
-        base,
-        first_records(&base_records, bases),
-        &base_reals,
-        left,
-        first_records(&left_records, lefts),
-        &left_reals,
-        right,
-        first_records(&right_records, rights),
-        &right_reals,
-    )
+    );
+    to.write_all(b" name=")?;
+    to.write_all(clashing_name(base, left, right))
 }
 
+// The line of a refusal, behind the field that names its text. Where both hands changed a name differently, it is told.
 fn write_refusal(
     to: &impl Print,
-    mode: Mode,
-    base: &[u8],
-    left: &[u8],
-    right: &[u8],
-    scene: &[u8],
-    reason: u32,
-    place: usize,
+    texts: &Texts<'_>,
+    scene: &str,
+    refused: Refused,
 ) -> io::Result<()> {
-    to.write_all(scene)?;
-    print!(to; "refused={reason} place={place}")?;
-    write_more(to, mode, reason, base, left, right)?;
+    print!(to; "{scene}{refused}")?;
+    if refused.reason == Reason::ChangedByBoth.number() {
+        write_clash(to, texts)?;
+    }
     to.write_all(b"\n")
 }
 
-// The line of a refusal, on standard error and on standard output.
+// That line, on standard error and on standard output.
 fn refuse(
-    rt: &(impl Print + Eprint + ErrorStream),
-    mode: Mode,
-    base: &[u8],
-    left: &[u8],
-    right: &[u8],
-    scene: &[u8],
-    reason: u32,
-    place: usize,
-) {
-    let errors = rt.error_stream();
-    let _ = write_refusal(&errors, mode, base, left, right, scene, reason, place);
-    output::noticed(
-        rt,
-        write_refusal(rt, mode, base, left, right, scene, reason, place),
-    );
+    rt: &(impl Print + ErrorStream),
+    texts: &Texts<'_>,
+    scene: &str,
+    refused: Refused,
+) -> io::Result<()> {
+    let _ = write_refusal(&rt.error_stream(), texts, scene, refused);
+    write_refusal(rt, texts, scene, refused)
 }
 
 // A refusal's first field; `fourth` is that of a joined or a typed text.
-fn scene_field<'a>(scene: Scene, fourth: &'a [u8], words: &'a [u8]) -> &'a [u8] {
+fn scene_field(scene: Scene, fourth: &'static str) -> &'static str {
     match scene {
-        Scene::None => lexer::part(words, 0, 0),
-        Scene::Base => lexer::part(words, 0, 11),
-        Scene::Left => lexer::part(words, 11, 11),
-        Scene::Right => lexer::part(words, 22, 12),
+        Scene::None => "",
+        Scene::Base => "scene=base ",
+        Scene::Left => "scene=left ",
+        Scene::Right => "scene=right ",
         Scene::Joined => fourth,
     }
 }
 
-const WORDS: [u8; 34] = *b"scene=base scene=left scene=right ";
-
-fn join(
-    rt: &(impl Print + Eprint + ErrorStream),
-    mode: Mode,
-    base: &[u8],
-    left: &[u8],
-    right: &[u8],
-) {
+fn join(rt: &(impl Print + ErrorStream), texts: &Texts<'_>) -> io::Result<()> {
     let mut records = [0u32; MOST_NUMBERS];
     let mut reals = [0.0f64; MOST_REALS];
     let mut out = [0u8; MOST_BYTES];
-    match joiner::propose(mode, base, left, right, &mut records, &mut reals, &mut out) {
-        Answer::Joined(len, _, _) => {
-            output::print(rt, lexer::part(&out, 0, len));
-        }
-        Answer::Refused(scene, reason, place) => {
-            let words = WORDS;
-            let field = scene_field(scene, b"scene=joined ", &words);
-            refuse(rt, mode, base, left, right, field, reason, place);
+    match joiner::propose(
+        texts.mode,
+        texts.base,
+        texts.left,
+        texts.right,
+        &mut records,
+        &mut reals,
+        &mut out,
+    ) {
+        Ok(joined) => rt.write_all(lexer::part(&out, 0, joined.len)),
+        Err(SceneRefusal { scene, refusal }) => {
+            let refused = Refused::without_line(refusal.reason.number(), refusal.place);
+            refuse(rt, texts, scene_field(scene, "scene=joined "), refused)
         }
     }
 }
 
-fn check(
-    rt: &(impl Print + Eprint + ErrorStream),
-    mode: Mode,
-    base: &[u8],
-    left: &[u8],
-    right: &[u8],
-    typed: &[u8],
-) {
+// Apart from `join`: the call differs, and so does what is printed of a text that is accepted.
+fn check(rt: &(impl Print + ErrorStream), texts: &Texts<'_>, typed: &[u8]) -> io::Result<()> {
     let mut records = [0u32; MOST_NUMBERS];
     let mut reals = [0.0f64; MOST_REALS];
     let mut out = [0u8; MOST_BYTES];
     match joiner::check(
-        mode,
-        base,
-        left,
-        right,
+        texts.mode,
+        texts.base,
+        texts.left,
+        texts.right,
         typed,
         &mut records,
         &mut reals,
         &mut out,
     ) {
-        Answer::Joined(_, count, doubles) => {
-            output::noticed(
-                rt,
-                println!(rt; "joined primitives={count} reals={doubles}"),
-            );
+        Ok(joined) => {
+            let count = joined.primitives;
+            let doubles = joined.reals;
+            println!(rt; "joined primitives={count} reals={doubles}")
         }
-        Answer::Refused(scene, reason, place) => {
-            let words = WORDS;
-            let field = scene_field(scene, b"scene=typed ", &words);
-            refuse(rt, mode, base, left, right, field, reason, place);
+        Err(SceneRefusal { scene, refusal }) => {
+            let refused = Refused::without_line(refusal.reason.number(), refusal.place);
+            refuse(rt, texts, scene_field(scene, "scene=typed "), refused)
         }
     }
 }
 
-// The text behind both hands', where an argument names one.
-fn join_or_check(
-    rt: &(impl Env + Files + Print + Eprint + ErrorStream),
-    mode: Mode,
-    base: &[u8],
-    left: &[u8],
-    right: &[u8],
-    argument: usize,
-) {
-    if input::arg_count(rt) <= argument {
-        join(rt, mode, base, left, right);
-        return;
+// The text of a file, in the room for it; none where it cannot be read.
+fn load<'a>(rt: &(impl Env + Files), argument: usize, room: &'a mut [u8]) -> Option<&'a [u8]> {
+    match input::load_argument(rt, argument, room) {
+        Ok(n) => Some(&room[..n]),
+        Err(LoadError::TooLong) => Some(room),
+        Err(LoadError::Unreadable) => None,
     }
-    let mut typed = [0u8; ROOM];
-    let n = load(rt, argument, &mut typed);
-    if n == UNREADABLE {
-        print_unreadable(rt, "typed");
-        return;
-    }
-    check(rt, mode, base, left, right, lexer::part(&typed, 0, n));
 }
 
-fn with_right(
-    rt: &(impl Env + Files + Print + Eprint + ErrorStream),
-    mode: Mode,
-    base: &[u8],
-    left: &[u8],
-    argument: usize,
-    next: usize,
-) {
-    let mut right = [0u8; ROOM];
-    let n = load(rt, argument, &mut right);
-    if n == UNREADABLE {
-        print_unreadable(rt, "right");
-        return;
-    }
-    join_or_check(rt, mode, base, left, lexer::part(&right, 0, n), next);
+fn print_unreadable(rt: &(impl Print + ErrorStream), scene: &str) -> io::Result<()> {
+    let _ = println!(&rt.error_stream(); "scene={scene} unreadable");
+    println!(rt; "scene={scene} unreadable")
 }
 
-fn with_left(
-    rt: &(impl Env + Files + Print + Eprint + ErrorStream),
-    mode: Mode,
-    base: &[u8],
-    first: usize,
-) {
-    let mut left = [0u8; ROOM];
-    let n = load(rt, lexer::least(first, 2) + 1, &mut left);
-    if n == UNREADABLE {
-        print_unreadable(rt, "left");
-        return;
-    }
-    let right = lexer::least(first, 2) + 2;
-    with_right(rt, mode, base, lexer::part(&left, 0, n), right, right + 1);
-}
-
-fn with_base(rt: &(impl Env + Files + Print + Eprint + ErrorStream), mode: Mode, first: usize) {
+// Joins the texts, or checks one that stands behind them. All are loaded before any is read.
+fn run(rt: &(impl Env + Files + Print + ErrorStream)) -> io::Result<()> {
+    let mode = input::mode(rt);
+    let first = input::first(rt);
     let mut base = [0u8; ROOM];
-    let n = load(rt, first, &mut base);
-    if n == UNREADABLE {
-        print_unreadable(rt, "base");
-        return;
+    let mut left = [0u8; ROOM];
+    let mut right = [0u8; ROOM];
+    let mut typed = [0u8; ROOM];
+    let Some(base) = load(rt, first, &mut base) else {
+        return print_unreadable(rt, "base");
+    };
+    let Some(left) = load(rt, first + 1, &mut left) else {
+        return print_unreadable(rt, "left");
+    };
+    let Some(right) = load(rt, first + 2, &mut right) else {
+        return print_unreadable(rt, "right");
+    };
+    let texts = Texts {
+        mode,
+        base,
+        left,
+        right,
+    };
+    if input::arg_count(rt) <= first + 3 {
+        return join(rt, &texts);
     }
-    with_left(rt, mode, lexer::part(&base, 0, n), first);
+    let Some(typed) = load(rt, first + 3, &mut typed) else {
+        return print_unreadable(rt, "typed");
+    };
+    check(rt, &texts, typed)
 }
 
 fn main(rt: HostRuntime) {
     let first = input::first(&rt);
     let count = input::arg_count(&rt);
-    if (count < first + 3) | (first + 4 < count) | input::has_unknown_option(&rt) {
+    if count < first + 3 || first + 4 < count || input::has_unknown_option(&rt) {
         output::print(&rt, b"usage: join [--archive] BASE LEFT RIGHT [TYPED]\n");
         return;
     }
-    with_base(&rt, input::mode(&rt), first);
+    output::noticed(&rt, run(&rt));
 }

@@ -10,8 +10,8 @@ use lib.Ieee.{Float}
 use lib.ListN.{length, replicate, take}
 use Rattle.join_answer.specs.Answer.{Joins, reading_of, text_of}
 use Rattle.join_answer.specs.Settled.{Settles}
-use Rattle.join_answer.specs.declared.Answer.{Answer}
-use Rattle.join_answer.specs.declared.Answer.TheVariants as call
+use Rattle.join_answer.specs.Answer.{Answer}
+use Rattle.join_answer.specs.Answer as call
 use Rattle.joining.specs.Outcome.{Outcome, joined, refused}
 use Rattle.joining.specs.declared.Scene.{Scene}
 use Rattle.joining.specs.declared.Scene.TheVariants as scene

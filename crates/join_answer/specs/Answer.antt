@@ -1,14 +1,25 @@
 -- What the joining calls answer, and what they leave in all that is lent.
-use Rattle.std.specs.Prelude.{List, [], ◌∷◌, ◌≡◌, ℕ, Float, length}
-use Rattle.join_answer.specs.declared.Answer.{Answer}
-use Rattle.join_answer.specs.declared.Answer.TheVariants.{Joined, Refused}
+use Rattle.std.specs.Prelude.{Result, Ok, Err, List, [], ◌∷◌, ◌≡◌, ℕ, Float, length}
+use Rattle.join_answer.specs.declared.Joined.{Joined as Counts}
 use Rattle.joining.specs.Outcome.{Outcome, joined, refused}
 use Rattle.joining.specs.declared.Scene.{Scene}
 use Rattle.joining.specs.declared.Scene.TheVariants as scene
+use Rattle.joining.specs.declared.SceneRefusal.{SceneRefusal}
 use Rattle.laws.specs.Bytes.{Bytes}
+use Rattle.scene.specs.Reason.{reason_number}
 use Rattle.scene.specs.Reading as reading
 use Rattle.scene.specs.Reading.{Reading, accepted}
 use Rattle.scene.specs.Record.{filled, real_image, real_table, record_image}
+
+-- the length of the accepted text and its counts of primitives and reals; or which text is refused, why and where
+pub data Answer : Type 0 where
+  Joined : (len primitives reals : ℕ) → Answer
+  Refused : (scene : Scene) (reason place : ℕ) → Answer
+
+-- what the code answers
+abbrev pub answer_of : Result Counts SceneRefusal → Answer
+answer_of (Ok c) = Joined c.len c.primitives c.reals
+answer_of (Err w) = Refused w.scene (reason_number w.refusal.reason) w.refusal.place
 
 -- the answer: the text's length and the counts of its primitives and reals, or text, reason and place
 abbrev pub answered : Outcome → Answer

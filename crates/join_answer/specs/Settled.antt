@@ -1,11 +1,10 @@
 -- What comes of an accepted text whose tables are lent.
 use Rattle.std.specs.Prelude.{List, ◌≡◌, ℕ, Float, length}
-use Rattle.join_answer.specs.declared.Answer.{Answer}
 use Rattle.joining.specs.Outcome.{fitted}
 use Rattle.laws.specs.Bytes.{Bytes}
 use Rattle.scene.specs.Reading.{Entry, accepted}
 use Rattle.scene.specs.Record.{real_image, real_table, record_image}
-use Rattle.join_answer.specs.Answer.{Joins}
+use Rattle.join_answer.specs.Answer.{Answer, Joins}
 
 -- an accepted text with the tables of its reading
 pub record Settles (text : Bytes) (records : List ℕ) (reals : List Float) (out : Bytes) (count doubles : ℕ) (r : Answer) (records' : List ℕ) (reals' : List Float) (out' : Bytes) : Type 0 where

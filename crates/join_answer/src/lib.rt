@@ -1,18 +1,21 @@
 // What a joining call answers, and leaves in all that is lent: a refusal, or an accepted text.
 #![tactic(auto)]
 
-ghost use Rattle.join_answer.specs.Answer.{Joins};
+ghost use Rattle.join_answer.specs.Answer.{Joins, answer_of};
 ghost use Rattle.join_answer.specs.Settled.{Settles};
 ghost use Rattle.joining.specs.Outcome.{refused};
+ghost use Rattle.scene.specs.Reason.{reason_number};
 
-use joining::Scene;
+use joining::{Scene, SceneRefusal};
 use lines::Cursor;
+use scene::{Reason, Refusal};
 
-// The length of the accepted text and its counts of primitives and reals; or which text is refused, why and where.
+// The length of the accepted text and its counts of primitives and reals.
 #[derive(Clone, Copy)]
-pub enum Answer {
-    Joined(usize, usize, usize),
-    Refused(Scene, u32, usize),
+pub struct Joined {
+    pub len: usize,
+    pub primitives: usize,
+    pub reals: usize,
 }
 
 // A refusal: all that is lent is zeroed.
@@ -20,15 +23,13 @@ pub fn refuse(
     records: &mut [u32],
     reals: &mut [f64],
     out: &mut [u8],
-    scene: Scene,
-    reason: u32,
-    place: usize,
-) -> Answer
-    ensures { Joins (refused scene reason place) records.old reals.old out.old result records.new reals.new out.new }
+    why: SceneRefusal,
+) -> Result<Joined, SceneRefusal>
+    ensures { Joins (refused why.scene (reason_number why.refusal.reason) why.refusal.place) records.old reals.old out.old (answer_of result) records.new reals.new out.new }
 {
     table::clear(records, reals);
     writer::clear_from(out, 0);
-    Answer::Refused(scene, reason, place)
+    Err(why)
 }
 
 // An accepted text, whose tables are lent with so many primitives and reals, put into the output.
@@ -39,15 +40,24 @@ pub fn settle(
     out: &mut [u8],
     count: usize,
     doubles: usize,
-) -> Answer
-    ensures { Settles text.now records.old reals.old out.old count doubles result records.new reals.new out.new }
+) -> Result<Joined, SceneRefusal>
+    ensures { Settles text.now records.old reals.old out.old count doubles (answer_of result) records.new reals.new out.new }
 {
     let front = Cursor { at: 0, full: false };
     let end = lines::put(out, front, text);
     if end.full {
-        return refuse(records, reals, out, Scene::None, 23, 0);
+        let refusal = Refusal {
+            reason: Reason::OutputTooSmall,
+            place: 0,
+        };
+        let scene = Scene::None;
+        return refuse(records, reals, out, SceneRefusal { scene, refusal });
     }
     let at = end.at;
     writer::clear_from(out, at);
-    Answer::Joined(at, count, doubles)
+    Ok(Joined {
+        len: at,
+        primitives: count,
+        reals: doubles,
+    })
 }

@@ -2,7 +2,7 @@
 use mathlib.Core.Bool.{Bool, false, ◌&&◌}
 use mathlib.Core.List.{List, ◌++◌}
 use mathlib.Core.Path.{◌≡◌, refl, ap, sym, ◌∙◌, subst}
-use Prim.Native.Nat.{ℕ, ◌+◌, ◌*◌, ◌/◌, ◌≤◌, min}
+use Prim.Native.Nat.{ℕ, ◌*◌, ◌/◌, ◌≤◌, min}
 use native.Mathlib.Omega.{arith}
 use lib.Dec.{eqb}
 use lib.Ieee.{Float}
@@ -22,9 +22,7 @@ use Rattle.lines.proofs.PutsLaws.{puts_length}
 use Rattle.lines.specs.Puts.{Puts}
 use Rattle.lines.specs.declared.Cursor.{Cursor}
 use Rattle.match_meaning.proofs.NumberLaws.{once_meaning}
-use Rattle.pair.specs.Both.{ReadsBoth, beside, both_answer}
-use Rattle.pair.specs.declared.Both.{Both}
-use Rattle.pair.specs.declared.Both.TheVariants.{Read, Refused}
+use Rattle.pair.specs.Both.{Both, Read, ReadsBoth, Refused, beside, both_answer}
 use Rattle.pair.specs.declared.Side.{Side}
 use Rattle.reader.specs.Answer.{read_into}
 use Rattle.scene.specs.Reading.{Entry, accepted, statements}

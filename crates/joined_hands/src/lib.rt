@@ -5,8 +5,8 @@
 ghost use Rattle.std.specs.Prelude.{◌≡◌};
 ghost use Rattle.joined_hands.specs.Hands.{HoldsHands, PutsHands, RoomFor, holds_rows};
 
+use content::Scene;
 use lines::Cursor;
-use pair::Both;
 use scene::Mode;
 use table::{MOST_NUMBERS, MOST_REALS, MOST_RECORDS, WIDTH};
 
@@ -22,8 +22,8 @@ pub fn put_hands(
 ) -> Cursor
     ensures { PutsHands mode numbers reals left.now right.now order.now out.old result out.new }
 {
-    let n = lexer::least(numbers, MOST_NUMBERS);
-    let k = lexer::least(reals, MOST_REALS);
+    let n = numbers.min(MOST_NUMBERS);
+    let k = reals.min(MOST_REALS);
     let mut left_records = [0u32; MOST_NUMBERS];
     let mut left_reals = [0.0f64; MOST_REALS];
     let mut right_records = [0u32; MOST_NUMBERS];
@@ -37,62 +37,35 @@ pub fn put_hands(
         &mut right_records[..n],
         &mut right_reals[..k],
     ) {
-        Both::Refused(_, _, _) => Cursor { at: 0, full: false },
-        Both::Read(lefts, _, rights, _) => joined_text::put_order(
+        Err(_) => Cursor { at: 0, full: false },
+        Ok(counts) => joined_text::put_order(
             out,
             left,
-            table::first_records(&left_records[..n], lefts),
+            table::first_records(&left_records[..n], counts.left.primitives),
             right,
-            table::first_records(&right_records[..n], rights),
+            table::first_records(&right_records[..n], counts.right.primitives),
             order,
         ),
     }
 }
 
 // Whether a typed scene holds an order of both hands' records and no more.
-fn holds_rows(
-    left: &[u8],
-    left_records: &[u32],
-    left_reals: &[f64],
-    right: &[u8],
-    right_records: &[u32],
-    right_reals: &[f64],
-    typed: &[u8],
-    typed_records: &[u32],
-    typed_reals: &[f64],
-    order: &[usize],
-) -> bool
-    requires { RoomFor left_records.now right_records.now }
-    ensures { result ≡ holds_rows left.now left_records.now left_reals.now right.now right_records.now right_reals.now typed.now typed_records.now typed_reals.now order.now }
+fn holds_rows(left: Scene<'_>, right: Scene<'_>, typed: Scene<'_>, order: &[usize]) -> bool
+    requires { RoomFor left.records.now right.records.now }
+    ensures { result ≡ holds_rows left.entry.text.now left.entry.records.now left.entry.reals.now right.entry.text.now right.entry.records.now right.entry.reals.now typed.entry.text.now typed.entry.records.now typed.entry.reals.now order.now }
 {
-    let lefts = left_records.len() / WIDTH;
-    let rights = right_records.len() / WIDTH;
+    let lefts = left.records.len() / WIDTH;
+    let rights = right.records.len() / WIDTH;
     let mut left_matches = [0usize; MOST_RECORDS];
     let mut right_matches = [0usize; MOST_RECORDS];
-    matching::match_all(
-        left,
-        left_records,
-        left_reals,
-        typed,
-        typed_records,
-        typed_reals,
-        &mut left_matches[..lefts],
-    );
-    matching::match_all(
-        right,
-        right_records,
-        right_reals,
-        typed,
-        typed_records,
-        typed_reals,
-        &mut right_matches[..rights],
-    );
+    matching::match_all(left, typed, &mut left_matches[..lefts]);
+    matching::match_all(right, typed, &mut right_matches[..rights]);
     typed_matches::all_held(
         &right_matches[..rights],
         &left_matches[..lefts],
         order,
-        typed,
-        typed_records,
+        typed.text,
+        typed.records,
     )
 }
 
@@ -110,8 +83,8 @@ pub fn holds(
 ) -> bool
     ensures { HoldsHands mode left.now right.now typed.now typed_records.now typed_reals.now count order.now result }
 {
-    let n = lexer::least(typed_records.len(), MOST_NUMBERS);
-    let k = lexer::least(typed_reals.len(), MOST_REALS);
+    let n = typed_records.len().min(MOST_NUMBERS);
+    let k = typed_reals.len().min(MOST_REALS);
     let mut left_records = [0u32; MOST_NUMBERS];
     let mut left_reals = [0.0f64; MOST_REALS];
     let mut right_records = [0u32; MOST_NUMBERS];
@@ -125,17 +98,23 @@ pub fn holds(
         &mut right_records[..n],
         &mut right_reals[..k],
     ) {
-        Both::Refused(_, _, _) => false,
-        Both::Read(lefts, _, rights, _) => holds_rows(
-            left,
-            table::first_records(&left_records[..n], lefts),
-            &left_reals[..k],
-            right,
-            table::first_records(&right_records[..n], rights),
-            &right_reals[..k],
-            typed,
-            table::first_records(typed_records, count),
-            typed_reals,
+        Err(_) => false,
+        Ok(counts) => holds_rows(
+            Scene {
+                text: left,
+                records: table::first_records(&left_records[..n], counts.left.primitives),
+                reals: &left_reals[..k],
+            },
+            Scene {
+                text: right,
+                records: table::first_records(&right_records[..n], counts.right.primitives),
+                reals: &right_reals[..k],
+            },
+            Scene {
+                text: typed,
+                records: table::first_records(typed_records, count),
+                reals: typed_reals,
+            },
             order,
         ),
     }

@@ -39,10 +39,8 @@ pub fn put_order(
     ensures { Puts out.old (record { at = 0; full = false }) (order_text left.now left_records.now right.now right_records.now order.now) result out.new }
 {
     let mut end = Cursor { at: 0, full: false };
-    let mut i = 0;
-    while i < order.len() {
-        end = put_number(out, end, left, left_records, right, right_records, order[i]);
-        i += 1;
+    for n in order {
+        end = put_number(out, end, left, left_records, right, right_records, *n);
     }
     end
 }

@@ -18,7 +18,7 @@ use Rattle.joiner.proofs.ReadLaws.{read_failed, read_refused, read_settled, read
 use Rattle.join_answer.specs.Answer.{Joins}
 use Rattle.join_answer.specs.Settled.{Settles}
 use Rattle.joiner.specs.Code.{ChecksOrder, ProposesOrder, read_proposed}
-use Rattle.join_answer.specs.declared.Answer.{Answer}
+use Rattle.join_answer.specs.Answer.{Answer}
 use Rattle.joining.specs.Outcome.{check_plan, checked, planned, propose_plan, proposed, read_as, refused}
 use Rattle.joining.specs.Pick.{holds}
 use Rattle.joining.specs.declared.Scene.{Scene}
@@ -28,10 +28,10 @@ use Rattle.laws.specs.Bytes.{Bytes}
 use Rattle.lines.specs.Puts.{Puts}
 use Rattle.lines.specs.declared.Cursor.{Cursor}
 use Rattle.planning.specs.Plan.{Plans}
-use Rattle.planning.specs.declared.Reply.TheVariants as reply
+use Rattle.planning.specs.Plan as reply
 use Rattle.reader.proofs.ReadsLaws.{accepted_as}
 use Rattle.reader.specs.Answer.{Reads, read_into}
-use Rattle.reader.specs.declared.Answer.TheVariants as reader
+use Rattle.reader.specs.Answer as reader
 use Rattle.scene.specs.Reading as reading
 use Rattle.scene.specs.Reading.{Entry, accepted, read_statements, statements}
 use Rattle.scene.specs.Record.{real_image, record_image, settings_for}

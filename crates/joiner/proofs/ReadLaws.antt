@@ -8,14 +8,13 @@ use lib.ListN.{length}
 use Rattle.join_answer.proofs.AnswerLaws.{joins_as, joins_of}
 use Rattle.join_answer.specs.Answer.{Joins}
 use Rattle.join_answer.specs.Settled.{Settles}
-use Rattle.join_answer.specs.declared.Answer.{Answer}
+use Rattle.join_answer.specs.Answer.{Answer}
 use Rattle.joining.specs.Outcome.{fitted, read_as, refused}
 use Rattle.joining.specs.declared.Scene.TheVariants as scene
 use Rattle.laws.specs.Bytes.{Bytes}
 use Rattle.reader.proofs.ReadsLaws.{accepted_as, refused_as}
 use Rattle.reader.specs.Answer.{Reads, read_into}
-use Rattle.reader.specs.declared.Answer as reader_answer
-use Rattle.reader.specs.declared.Answer.TheVariants as reader
+use Rattle.reader.specs.Answer as reader
 use Rattle.scene.specs.Reading.{Entry, accepted, statements}
 use Rattle.scene.specs.Record.{real_image, record_image}
 use Rattle.scene.specs.Statement.{Statement}
@@ -26,7 +25,7 @@ use Rattle.sides.proofs.FitLaws.{numbers_kept, reals_kept}
 
 module _ (mode : Mode) (text : Bytes) (records : List ℕ) (reals : List Float) (out : Bytes) {table : List ℕ} {bits : List Float} where
   -- the tables are as long as they were
-  pub reads_kept : {r : reader_answer.Answer} → Reads mode text records reals r table bits → (length table ≡ length records) × (length bits ≡ length reals)
+  pub reads_kept : {r : reader.Answer} → Reads mode text records reals r table bits → (length table ≡ length records) × (length bits ≡ length reals)
   reads_kept h = (ap length h.table ∙ numbers_kept mode (length records) (length reals) text, ap length h.doubles ∙ reals_kept mode (length records) (length reals) text)
 
   module _ (good : List Statement → Bool) {r : Answer} {records' : List ℕ} {reals' : List Float} {out' : Bytes} where

@@ -3,7 +3,7 @@ use Rattle.std.specs.Prelude.{true, List, ◌++◌, ◌≡◌, ℕ, Float, lengt
 use Rattle.join_meaning.specs.Kept.{in_turn}
 use Rattle.join_meaning.specs.Written.{Numbers}
 use Rattle.join_answer.specs.Answer.{Joins}
-use Rattle.join_answer.specs.declared.Answer.{Answer}
+use Rattle.join_answer.specs.Answer.{Answer}
 use Rattle.joining.specs.Outcome.{Outcome, check_plan, planned, propose_plan, read_as}
 use Rattle.laws.specs.Bytes.{Bytes}
 use Rattle.reader.specs.Answer.{read_into}

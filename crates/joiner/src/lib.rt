@@ -1,17 +1,25 @@
 // Two hands' edits of a base joined: a proposed scene, and the check of a typed one.
 #![tactic(auto)]
 
-ghost use Rattle.join_answer.specs.Answer.{Joins};
+ghost use Rattle.join_answer.specs.Answer.{Joins, answer_of};
 ghost use Rattle.joiner.specs.Code.{ChecksOrder, ProposesOrder, read_proposed};
 ghost use Rattle.joining.specs.Outcome.{checked, proposed};
 ghost use Rattle.scene.specs.Record.{settings_for};
-ghost use Rattle.std.specs.Prelude.{length};
+ghost use Rattle.std.specs.Prelude.{◌≡◌, length};
 
-use join_answer::{Answer, refuse, settle};
-use joining::Scene;
-use planning::{MOST_BOTH, Reply};
-use scene::Mode;
+use join_answer::{Joined, refuse, settle};
+use joining::{Scene, SceneRefusal};
+use planning::MOST_BOTH;
+use scene::{Mode, Reason, Refusal};
 use table::MOST_BYTES;
+
+// A refusal of a whole text, or of none.
+fn refusal_of(scene: Scene, reason: Reason) -> SceneRefusal
+    ensures { result ≡ record { scene = scene; refusal = record { reason = reason; place = 0 } } }
+{
+    let refusal = Refusal { reason, place: 0 };
+    SceneRefusal { scene, refusal }
+}
 
 // A proposed text, read and put into the output.
 fn read_proposed(
@@ -20,16 +28,20 @@ fn read_proposed(
     records: &mut [u32],
     reals: &mut [f64],
     out: &mut [u8],
-) -> Answer
-    ensures { Joins (read_proposed mode text.now records.old reals.old (length out.old)) records.old reals.old out.old result records.new reals.new out.new }
+) -> Result<Joined, SceneRefusal>
+    ensures { Joins (read_proposed mode text.now records.old reals.old (length out.old)) records.old reals.old out.old (answer_of result) records.new reals.new out.new }
 {
     match reader::read_with_own_tables(mode, text, records, reals) {
-        reader::Answer::Refused(reason, place) => {
-            refuse(records, reals, out, Scene::Joined, reason, place)
-        }
-        reader::Answer::Accepted(count, doubles) => {
-            settle(text, records, reals, out, count, doubles)
-        }
+        Err(refusal) => refuse(
+            records,
+            reals,
+            out,
+            SceneRefusal {
+                scene: Scene::Joined,
+                refusal,
+            },
+        ),
+        Ok(counts) => settle(text, records, reals, out, counts.primitives, counts.reals),
     }
 }
 
@@ -42,8 +54,8 @@ fn propose_order(
     records: &mut [u32],
     reals: &mut [f64],
     out: &mut [u8],
-) -> Answer
-    ensures { ProposesOrder mode left.now right.now order.now records.old reals.old out.old result records.new reals.new out.new }
+) -> Result<Joined, SceneRefusal>
+    ensures { ProposesOrder mode left.now right.now order.now records.old reals.old out.old (answer_of result) records.new reals.new out.new }
 {
     let mut text = [0u8; MOST_BYTES];
     let end = joined_hands::put_hands(
@@ -56,9 +68,14 @@ fn propose_order(
         &mut text,
     );
     if end.full {
-        return refuse(records, reals, out, Scene::Joined, 1, 0);
+        return refuse(
+            records,
+            reals,
+            out,
+            refusal_of(Scene::Joined, Reason::TextTooLong),
+        );
     }
-    let at = lexer::least(end.at, MOST_BYTES);
+    let at = end.at.min(MOST_BYTES);
     read_proposed(mode, &text[..at], records, reals, out)
 }
 
@@ -72,18 +89,30 @@ fn check_order(
     records: &mut [u32],
     reals: &mut [f64],
     out: &mut [u8],
-) -> Answer
-    ensures { ChecksOrder mode left.now right.now typed.now order.now records.old reals.old out.old result records.new reals.new out.new }
+) -> Result<Joined, SceneRefusal>
+    ensures { ChecksOrder mode left.now right.now typed.now order.now records.old reals.old out.old (answer_of result) records.new reals.new out.new }
 {
     match reader::read_with_own_tables(mode, typed, records, reals) {
-        reader::Answer::Refused(reason, place) => {
-            refuse(records, reals, out, Scene::Joined, reason, place)
-        }
-        reader::Answer::Accepted(count, doubles) => {
+        Err(refusal) => refuse(
+            records,
+            reals,
+            out,
+            SceneRefusal {
+                scene: Scene::Joined,
+                refusal,
+            },
+        ),
+        Ok(counts) => {
+            let count = counts.primitives;
             if joined_hands::holds(mode, left, right, typed, records, reals, count, order) {
-                return settle(typed, records, reals, out, count, doubles);
+                return settle(typed, records, reals, out, count, counts.reals);
             }
-            refuse(records, reals, out, Scene::None, 32, 0)
+            refuse(
+                records,
+                reals,
+                out,
+                refusal_of(Scene::None, Reason::NotTheJoin),
+            )
         }
     }
 }
@@ -98,16 +127,16 @@ pub fn propose(
     records: &mut [u32],
     reals: &mut [f64],
     out: &mut [u8],
-) -> Answer
-    ensures { Joins (proposed (settings_for mode (length records.old) (length reals.old)) base.now left.now right.now (length out.old)) records.old reals.old out.old result records.new reals.new out.new }
+) -> Result<Joined, SceneRefusal>
+    ensures { Joins (proposed (settings_for mode (length records.old) (length reals.old)) base.now left.now right.now (length out.old)) records.old reals.old out.old (answer_of result) records.new reals.new out.new }
 {
     let planned = planning::plan(mode, records.len(), reals.len(), base, left, right);
     let answer = planned.answer;
     let order = planned.order;
     match answer {
-        Reply::Refused(scene, reason, place) => refuse(records, reals, out, scene, reason, place),
-        Reply::Ordered(count) => {
-            let end = lexer::least(count, MOST_BOTH);
+        Err(why) => refuse(records, reals, out, why),
+        Ok(count) => {
+            let end = count.min(MOST_BOTH);
             propose_order(mode, left, right, &order[..end], records, reals, out)
         }
     }
@@ -124,16 +153,16 @@ pub fn check(
     records: &mut [u32],
     reals: &mut [f64],
     out: &mut [u8],
-) -> Answer
-    ensures { Joins (checked (settings_for mode (length records.old) (length reals.old)) base.now left.now right.now typed.now (length out.old)) records.old reals.old out.old result records.new reals.new out.new }
+) -> Result<Joined, SceneRefusal>
+    ensures { Joins (checked (settings_for mode (length records.old) (length reals.old)) base.now left.now right.now typed.now (length out.old)) records.old reals.old out.old (answer_of result) records.new reals.new out.new }
 {
     let planned = planning::plan(mode, records.len(), reals.len(), base, left, right);
     let answer = planned.answer;
     let order = planned.order;
     match answer {
-        Reply::Refused(scene, reason, place) => refuse(records, reals, out, scene, reason, place),
-        Reply::Ordered(count) => {
-            let end = lexer::least(count, MOST_BOTH);
+        Err(why) => refuse(records, reals, out, why),
+        Ok(count) => {
+            let end = count.min(MOST_BOTH);
             check_order(mode, left, right, typed, &order[..end], records, reals, out)
         }
     }

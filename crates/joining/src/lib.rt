@@ -1,6 +1,8 @@
 // Two hands' edits of a base scene joined: specs/ has the definitions, proofs/ their laws. No function.
 #![tactic(auto)]
 
+use scene::Refusal;
+
 // Whose definition of a name is taken, or that both hands changed it differently.
 #[derive(Clone, Copy)]
 pub enum Choice {
@@ -17,4 +19,11 @@ pub enum Scene {
     Left,
     Right,
     Joined,
+}
+
+// A refusal with the text that it is of.
+#[derive(Clone, Copy)]
+pub struct SceneRefusal {
+    pub scene: Scene,
+    pub refusal: Refusal,
 }

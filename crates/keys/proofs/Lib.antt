@@ -7,3 +7,4 @@ pub mod PartLaws
 pub mod LeastLaws
 pub mod NextLaws
 pub mod ScanLaws
+pub mod LowerLaws

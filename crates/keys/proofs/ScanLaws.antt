@@ -1,19 +1,16 @@
 -- What a loop over names does at each turn, and what the rows of a table are by number.
-use mathlib.Core.Bool.{Bool, true, false, cond, and-false, or-false}
+use mathlib.Core.Bool.{Bool, true, false, cond, and-false}
 use mathlib.Core.List.{List, [], ◌∷◌}
-use mathlib.Core.Logic.{◌⊎◌, inl, inr}
 use mathlib.Core.Option.{Option, none, some}
 use mathlib.Core.Path.{◌≡◌, refl, ap, sym, ◌∙◌}
 use Prim.Native.Nat.{ℕ, zero, suc, ◌+◌, ◌-◌, ◌/◌, ◌≤◌, ◌<◌}
 use native.Mathlib.Numerals.{add-one}
 use native.Mathlib.Omega.{arith}
-use borrow.Author.Tests.{eq-eqb, ne_eqb, eqb-true, eqb-false, lt-ltb, le-ltb, leb-true, leb-false, le-leb, lt-leb}
-use lib.Dec.{eqb, ltb, leb}
+use borrow.Author.Tests.{eq-eqb, ne_eqb, eqb-true, eqb-false, leb-true, leb-false, le-leb, lt-leb}
+use lib.Dec.{eqb, leb}
 use lib.Ieee.{Float}
-use lib.ListN.{length, drop, get_or, drop_of_length-le}
-use lib.Seq.{drop-cons}
+use lib.ListN.{length}
 use Rattle.laws.proofs.BytesLaws.{same_eq}
-use Rattle.laws.proofs.NatLaws.{le_or_lt}
 use Rattle.laws.specs.Bytes.{Bytes, same}
 use Rattle.scene.specs.Record.{record_in, name_in, width}
 use Rattle.scene.specs.Told.{Told, tells}
@@ -22,28 +19,6 @@ use Rattle.keys.specs.Key.{Key, nth_of, times, key_over, key_at, key_of, from, s
 use Rattle.keys.specs.Next.{named_by, lesser, above, least_above}
 use Rattle.keys.specs.Rows.{rows_in, scene_rows}
 use Rattle.keys.specs.Scan.{better, least_in}
-
--- two names from place i on: where b ends first, at a byte that differs, past one that agrees, and where a ends
-module _ (a b : Bytes) (i : ℕ) where
-  pub lower_short : i < length a → length b ≤ i → lower (drop i a) (drop i b) ≡ false
-  unfolding lower
-  lower_short l m = rw (drop-cons a i 0 l, drop_of_length-le b m)
-
-  pub lower_differs : i < length a → i < length b → (get_or a i 0 ≡ get_or b i 0 → ⊥) → lower (drop i a) (drop i b) ≡ ltb (get_or a i 0) (get_or b i 0)
-  unfolding lower
-  lower_differs l m e = rw (drop-cons a i 0 l, drop-cons b i 0 m, ne_eqb (get_or a i 0) (get_or b i 0) e) (or-false (ltb (get_or a i 0) (get_or b i 0)))
-
-  pub lower_step : i < length a → i < length b → get_or a i 0 ≡ get_or b i 0 → lower (drop (i + 1) a) (drop (i + 1) b) ≡ lower (drop i a) (drop i b)
-  unfolding lower
-  lower_step l m e = rw (add-one, drop-cons a i 0 l, drop-cons b i 0 m, eq-eqb (get_or a i 0) (get_or b i 0) e, le-ltb (get_or a i 0) (get_or b i 0) (omega arith))
-
-  pub lower_end : i ≡ length a → lower (drop i a) (drop i b) ≡ ltb (length a) (length b)
-  unfolding lower
-  lower_end e = go (le_or_lt (length b) i)
-    where
-      go : (length b ≤ i) ⊎ (i < length b) → lower (drop i a) (drop i b) ≡ ltb (length a) (length b)
-      go (inl m) = rw (drop_of_length-le a {i = i} (omega arith), drop_of_length-le b m, le-ltb (length a) (length b) (omega arith))
-      go (inr m) = rw (drop_of_length-le a {i = i} (omega arith), drop-cons b i 0 m, lt-ltb (length a) (length b) (omega arith))
 
 module _ (text : Bytes) (records : List ℕ) where
   -- ---- rows by number

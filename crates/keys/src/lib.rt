@@ -15,17 +15,7 @@ use table::WIDTH;
 pub fn lower(a: &[u8], b: &[u8]) -> bool
     ensures { result ≡ lower a.now b.now }
 {
-    let mut i = 0;
-    while i < a.len() {
-        if b.len() <= i {
-            return false;
-        }
-        if a[i] != b[i] {
-            return a[i] < b[i];
-        }
-        i += 1;
-    }
-    a.len() < b.len()
+    a < b
 }
 
 // 1 where record n has that name, else 0.
@@ -43,10 +33,8 @@ pub fn times(text: &[u8], records: &[u32], n: usize, name: &[u8]) -> usize
     ensures { result ≡ times name.now (rows_in text.now records.now [] n) }
 {
     let mut seen = 0;
-    let mut k = 0;
-    while k < n {
-        k += 1;
-        seen += hit(text, records, k, name);
+    for k in 0..n {
+        seen += hit(text, records, k + 1, name);
     }
     seen
 }
@@ -57,12 +45,10 @@ pub fn number_of_key(text: &[u8], records: &[u32], name: &[u8], above: usize) ->
     ensures { result ≡ length (found (nth_of name.now (suc above)) (scene_rows text.now records.now [])) }
 {
     let mut seen = 0;
-    let mut k = 0;
-    while k < records.len() / WIDTH {
-        k += 1;
-        seen += hit(text, records, k, name);
+    for k in 0..records.len() / WIDTH {
+        seen += hit(text, records, k + 1, name);
         if above < seen {
-            return k;
+            return k + 1;
         }
     }
     0
@@ -90,10 +76,8 @@ pub fn least_above(text: &[u8], records: &[u32], name: &[u8]) -> usize
     ensures { result ≡ least_in text.now records.now name.now (length records.now / width) }
 {
     let mut best = 0;
-    let mut k = 0;
-    while k < records.len() / WIDTH {
-        k += 1;
-        best = better(text, records, name, best, k);
+    for k in 0..records.len() / WIDTH {
+        best = better(text, records, name, best, k + 1);
     }
     best
 }

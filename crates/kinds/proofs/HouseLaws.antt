@@ -5,7 +5,7 @@ use mathlib.Core.Logic.{◌⊎◌, inl, inr}
 use mathlib.Core.Path.{◌≡◌, refl, sym, ap, ◌∙◌}
 use Prim.Native.Nat.{ℕ, ◌≤◌, ◌<◌}
 use native.Mathlib.Omega.{arith}
-use borrow.Author.Tests.{eqb-true, eqb-false, le-leb, lt-leb, ne_eqb}
+use borrow.Author.Tests.{le-leb, lt-leb, ne_eqb}
 use lib.Dec.{T, eqb, leb, leb→le}
 use lib.Ieee.{Float, lt}
 use lib.Ieee.Fits.{and_l, and_r}
@@ -17,34 +17,30 @@ use Rattle.laws.specs.Bytes.{same}
 use Rattle.laws.specs.Runs.{all}
 use Rattle.scene.specs.HouseRules.{House, breach_at, breaks, house_rules, is_above0, is_at_least0, is0}
 use Rattle.scene.specs.Types.{number_from, type_number}
+use Rattle.kinds.proofs.CountLaws.{between}
 use Rattle.kinds.specs.Rules.{cone_breach, is_ruled, ring_breach}
 
--- the list ends with no rule
-or_none : (b : Bool) → b ≡ (b || false)
-or_none true = refl
-or_none false = refl
+-- ---- the rules of a type's number
 
-either : (a b : Bool) → (a || b) ≡ true → (a ≡ true) ⊎ (b ≡ true)
-either true b e = inl refl
-either false b e = inr e
+-- the list ends with no rule: one, two and three rules before its end
+pub one : (a : Bool) → a ≡ (a || false)
+one true = refl
+one false = refl
 
--- a number that is none of two, or of three
-neither : (t m n : ℕ) → (eqb t m || eqb t n) ≡ false → (t ≡ m → ⊥) × (t ≡ n → ⊥)
-neither t m n e = (eqb-false t m (or_false_left (eqb t m) (eqb t n) e), eqb-false t n (or_false_right (eqb t m) (eqb t n) e))
+two : (a b : Bool) → (a || b) ≡ (a || (b || false))
+two a b = ap (λ (x : Bool). a || x) (one b)
 
-above : (t n : ℕ) → n ≤ t → (t ≡ n → ⊥) → n < t
-above t n l h = go (le_or_lt t n)
-  where
-    go : (t ≤ n) ⊎ (n < t) → n < t
-    go (inl m) = absurd (h (omega arith))
-    go (inr m) = m
+three : (a b c : Bool) → (a || (b || c)) ≡ (a || (b || (c || false)))
+three a b c = ap (λ (x : Bool). a || x) (two b c)
 
-under : (t n : ℕ) → t ≤ n → (t ≡ n → ⊥) → t < n
-under t n l h = go (le_or_lt n t)
-  where
-    go : (n ≤ t) ⊎ (t < n) → t < n
-    go (inl m) = absurd (h (omega arith))
-    go (inr m) = m
+-- a real of a cone or a ring that has none
+pub no_cone_rule : (k : ℕ) (x y : Float) → (k ≡ 7 → ⊥) → (k ≡ 8 → ⊥) → false ≡ cone_breach k x y
+unfolding cone_breach
+no_cone_rule k x y a b = rw (ne_eqb 7 k (λ e. a (sym e)), ne_eqb 8 k (λ e. b (sym e)))
+
+pub no_ring_rule : (k : ℕ) (x y z : Float) → (k ≡ 6 → ⊥) → (k ≡ 7 → ⊥) → (k ≡ 8 → ⊥) → false ≡ ring_breach k x y z
+unfolding ring_breach
+no_ring_rule k x y z a b c = rw (ne_eqb 6 k (λ e. a (sym e)), ne_eqb 7 k (λ e. b (sym e)), ne_eqb 8 k (λ e. c (sym e)))
 
 module _ (t k : ℕ) (x y z : Float) where
   abbrev breach : ℕ → Bool
@@ -53,109 +49,56 @@ module _ (t k : ℕ) (x y z : Float) where
   abbrev low : ℕ → Bool
   low r = eqb r k && not (is_above0 x)
 
-  abbrev below : ℕ → Bool
-  below r = eqb r k && not (is_at_least0 x)
+  abbrev none : Bool
+  none = eqb 3 k && (is0 x && is0 y && is0 z)
 
-  -- the types of one rule, of two and of three
-  of_one : (n : ℕ) (b : Bool) → (b || false) ≡ breach n → t ≡ n → b ≡ breach t
-  of_one n b e h = or_none b ∙ e ∙ ap breach (sym h)
-
-  of_two : (n : ℕ) (a b : Bool) → (a || (b || false)) ≡ breach n → t ≡ n → (a || b) ≡ breach t
-  of_two n a b e h = ap (λ (c : Bool). a || c) (or_none b) ∙ e ∙ ap breach (sym h)
-
-  of_three : (n : ℕ) (a b c : Bool) → (a || (b || (c || false))) ≡ breach n → t ≡ n → (a || (b || c)) ≡ breach t
-  of_three n a b c e h = ap (λ (d : Bool). a || (b || d)) (or_none c) ∙ e ∙ ap breach (sym h)
-
-  -- one rule for two types
-  of_pair : (m n : ℕ) (b : Bool) → (b || false) ≡ breach m → (b || false) ≡ breach n → (eqb t m || eqb t n) ≡ true → b ≡ breach t
-  of_pair m n b p q h = go (either (eqb t m) (eqb t n) h)
-    where
-      go : (eqb t m ≡ true) ⊎ (eqb t n ≡ true) → b ≡ breach t
-      go (inl e) = of_one m b p (eqb-true t m e)
-      go (inr e) = of_one n b q (eqb-true t n e)
-
-  -- ---- surfaces
-
-  pub source_rule : t ≡ 1 → (eqb 3 k && (is0 x && is0 y && is0 z)) ≡ breach t
+  pub source_rule : t ≡ 1 → none ≡ breach t
   unfolding breach_at type_number number_from same
-  source_rule = of_one 1 (eqb 3 k && (is0 x && is0 y && is0 z)) refl
+  source_rule e = one none ∙ ap breach (sym e)
 
-  pub sphere_rule : (eqb t 2 || eqb t 3) ≡ true → low 4 ≡ breach t
+  pub sphere_rule : 2 ≤ t → t < 4 → low 4 ≡ breach t
   unfolding breach_at type_number number_from same
-  sphere_rule = of_pair 2 3 (low 4) refl refl
+  sphere_rule = between breach (low 4) 2 2 (one (low 4), (one (low 4), tt)) t
 
-  pub cone_rule : (eqb t 5 || eqb t 6) ≡ true → cone_breach k x y ≡ breach t
+  pub cone_rule : 5 ≤ t → t < 7 → cone_breach k x y ≡ breach t
   unfolding breach_at type_number number_from same cone_breach
-  cone_rule h = go (either (eqb t 5) (eqb t 6) h)
-    where
-      go : (eqb t 5 ≡ true) ⊎ (eqb t 6 ≡ true) → cone_breach k x y ≡ breach t
-      go (inl e) = of_three 5 (below 7) (below 8) (eqb 8 k && (is0 x && is0 y)) refl (eqb-true t 5 e)
-      go (inr e) = of_three 6 (below 7) (below 8) (eqb 8 k && (is0 x && is0 y)) refl (eqb-true t 6 e)
+  cone_rule =
+      let rules : cone_breach k x y ≡ breach 5 = three (eqb 7 k && not (is_at_least0 x)) (eqb 8 k && not (is_at_least0 x)) (eqb 8 k && (is0 x && is0 y)) in
+      between breach (cone_breach k x y) 5 2 (rules, (rules, tt)) t
 
-  pub cylinder_rule : (eqb t 7 || eqb t 8) ≡ true → low 7 ≡ breach t
+  pub cylinder_rule : 7 ≤ t → t < 9 → low 7 ≡ breach t
   unfolding breach_at type_number number_from same
-  cylinder_rule = of_pair 7 8 (low 7) refl refl
+  cylinder_rule = between breach (low 7) 7 2 (one (low 7), (one (low 7), tt)) t
 
   pub ring_rule : t ≡ 9 → ring_breach k x y z ≡ breach t
   unfolding breach_at type_number number_from same ring_breach
-  ring_rule = of_three 9 (below 7) (eqb 8 k && not (lt y x)) (eqb 6 k && (is0 x && is0 y && is0 z)) refl
+  ring_rule e = three (eqb 7 k && not (is_at_least0 x)) (eqb 8 k && not (lt y x)) (eqb 6 k && (is0 x && is0 y && is0 z)) ∙ ap breach (sym e)
 
-  -- a polygon has none
-  pub no_surface_rule : t < 10 → (t ≡ 1 → ⊥) → (eqb t 2 || eqb t 3) ≡ false → (eqb t 5 || eqb t 6) ≡ false → (eqb t 7 || eqb t 8) ≡ false → (t ≡ 9 → ⊥) → false ≡ breach t
+  pub rough_rule : 18 ≤ t → t < 21 → (low 5 || low 6) ≡ breach t
   unfolding breach_at type_number number_from same
-  no_surface_rule l a b c d e = go (le_or_lt t 0)
-    where
-      go : (t ≤ 0) ⊎ (0 < t) → false ≡ breach t
-      go (inl h) = let q : 0 ≡ t = omega arith in ap breach q
-      go (inr h) =
-          let m = neither t 2 3 b in
-          let n = neither t 5 6 c in
-          let o = neither t 7 8 d in
-          let above_1 : 1 < t = above t 1 (omega arith) a in
-          let above_2 : 2 < t = above t 2 (omega arith) m.0 in
-          let above_3 : 3 < t = above t 3 (omega arith) m.1 in
-          let to_8 : t < 9 = under t 9 (omega arith) e in
-          let to_7 : t < 8 = under t 8 (omega arith) o.1 in
-          let to_6 : t < 7 = under t 7 (omega arith) o.0 in
-          let to_5 : t < 6 = under t 6 (omega arith) n.1 in
-          let q : 4 ≡ t = omega (arith, under t 5 (omega arith) n.0) in
-          ap breach q
+  rough_rule = between breach (low 5 || low 6) 18 3 (two (low 5) (low 6), (two (low 5) (low 6), (two (low 5) (low 6), tt))) t
 
-  -- ---- other types
-
-  pub rough_rule : (eqb t 18 || eqb t 19 || eqb t 20) ≡ true → (low 5 || low 6) ≡ breach t
+  pub index_rule : (t ≡ 21) ⊎ (t ≡ 23) → low 4 ≡ breach t
   unfolding breach_at type_number number_from same
-  rough_rule h = go (either (eqb t 18 || eqb t 19) (eqb t 20) h)
-    where
-      one : (eqb t 18 ≡ true) ⊎ (eqb t 19 ≡ true) → (low 5 || low 6) ≡ breach t
-      one (inl e) = of_two 18 (low 5) (low 6) refl (eqb-true t 18 e)
-      one (inr e) = of_two 19 (low 5) (low 6) refl (eqb-true t 19 e)
-
-      go : ((eqb t 18 || eqb t 19) ≡ true) ⊎ (eqb t 20 ≡ true) → (low 5 || low 6) ≡ breach t
-      go (inl e) = one (either (eqb t 18) (eqb t 19) e)
-      go (inr e) = of_two 20 (low 5) (low 6) refl (eqb-true t 20 e)
-
-  pub index_rule : (eqb t 21 || eqb t 23) ≡ true → low 4 ≡ breach t
-  unfolding breach_at type_number number_from same
-  index_rule = of_pair 21 23 (low 4) refl refl
+  index_rule (inl e) = one (low 4) ∙ ap breach (sym e)
+  index_rule (inr e) = one (low 4) ∙ ap breach (sym e)
 
   pub indices_rule : t ≡ 22 → (low 4 || low 8) ≡ breach t
   unfolding breach_at type_number number_from same
-  indices_rule = of_two 22 (low 4) (low 8) refl
+  indices_rule e = two (low 4) (low 8) ∙ ap breach (sym e)
 
-  -- any other has none
-  pub no_other_rule : 10 ≤ t → (eqb t 18 || eqb t 19 || eqb t 20) ≡ false → (eqb t 21 || eqb t 23) ≡ false → (t ≡ 22 → ⊥) → false ≡ breach t
+  -- what is no type, a polygon, and most materials have none
+  pub no_type_rule : t ≡ 0 → false ≡ breach t
   unfolding breach_at type_number number_from same
-  no_other_rule l a b c =
-      let r = neither t 18 19 (or_false_left (eqb t 18 || eqb t 19) (eqb t 20) a) in
-      let s = eqb-false t 20 (or_false_right (eqb t 18 || eqb t 19) (eqb t 20) a) in
-      let q = neither t 21 23 b in
-      rw (ne_eqb 1 t (λ e. omega arith), ne_eqb 2 t (λ e. omega arith), ne_eqb 3 t (λ e. omega arith), ne_eqb 5 t (λ e. omega arith), ne_eqb 6 t (λ e. omega arith), ne_eqb 7 t (λ e. omega arith), ne_eqb 8 t (λ e. omega arith), ne_eqb 9 t (λ e. omega arith), ne_eqb 18 t (λ e. r.0 (sym e)), ne_eqb 19 t (λ e. r.1 (sym e)), ne_eqb 20 t (λ e. s (sym e)), ne_eqb 21 t (λ e. q.0 (sym e)), ne_eqb 22 t (λ e. c (sym e)), ne_eqb 23 t (λ e. q.1 (sym e)))
+  no_type_rule e = ap breach (sym e)
 
--- the rules of other types are about one real alone
-pub other_alone : (t k : ℕ) (x y z : Float) → 10 ≤ t → breach_at house_rules t k x x x ≡ breach_at house_rules t k x y z
-unfolding breach_at type_number number_from same
-other_alone t k x y z l = rw (ne_eqb 1 t (λ e. omega arith), ne_eqb 5 t (λ e. omega arith), ne_eqb 6 t (λ e. omega arith), ne_eqb 9 t (λ e. omega arith))
+  pub no_polygon_rule : t ≡ 4 → false ≡ breach t
+  unfolding breach_at type_number number_from same
+  no_polygon_rule e = ap breach (sym e)
+
+  pub no_material_rule : 10 ≤ t → t < 18 → false ≡ breach t
+  unfolding breach_at type_number number_from same
+  no_material_rule = between breach false 10 8 (refl, (refl, (refl, (refl, (refl, (refl, (refl, (refl, tt)))))))) t
 
 -- ---- the types that have a rule
 
@@ -175,6 +118,14 @@ unruled_past (h ∷ hs) t n p l =
     let a : h.type ≤ n = leb→le h.type n (and_l (leb h.type n) (all (λ (x : House). leb x.type n) hs) p) in
     let b = unruled_past hs t n (and_r (leb h.type n) (all (λ (x : House). leb x.type n) hs) p) l in
     rw (ne_eqb h.type t (λ e. omega arith)) b
+
+-- past glass no type has a rule
+pub no_later_rule : (t k : ℕ) (x y z : Float) → 21 ≤ t → ((t ≡ 21) ⊎ (t ≡ 23) → ⊥) → (t ≡ 22 → ⊥) → false ≡ breach_at house_rules t k x y z
+unfolding all type_number number_from same
+no_later_rule t k x y z l n m =
+    let a : t ≡ 21 → ⊥ = λ e. n (inl e) in
+    let b : t ≡ 23 → ⊥ = λ e. n (inr e) in
+    sym (unruled house_rules t k x y z (unruled_past house_rules t 23 tt (omega arith)))
 
 alike : (a b : Bool) → T (beq a b) → a ≡ b
 alike true true h = refl

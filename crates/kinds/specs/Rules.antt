@@ -1,12 +1,18 @@
--- What the code's numbers mean, and the house rules as it tests them.
-use Rattle.std.specs.Prelude.{Bool, false, not, ◌&&◌, ◌||◌, cond, List, [], ◌∷◌, ℕ, ◌-◌, eqb, ltb, Float}
+-- What the code's rules on counts mean, and the house rules as it tests them.
+use Rattle.std.specs.Prelude.{Bool, false, not, ◌&&◌, ◌||◌, List, [], ◌∷◌, ℕ, eqb, Float}
 use Rattle.std.specs.Float.Ieee.{lt}
 use Rattle.scene.specs.HouseRules.{House, is0, is_at_least0}
 use Rattle.scene.specs.Types.{Rule, exactly, or_more, either, corners, any}
+use Rattle.kinds.specs.declared.Rule.{Rule as CodeRule}
+use Rattle.kinds.specs.declared.Rule.TheVariants.{Exactly, AtLeast, ThreeOrFour, Corners, Any}
 
 -- a rule on a count
-unfoldable pub rule_of : ℕ → Rule
-rule_of n = cond (ltb n 100) (exactly n) (cond (ltb n 200) (or_more (n - 100)) (cond (eqb n 200) (either 3 4) (cond (eqb n 201) corners any)))
+abbrev pub rule_of : CodeRule → Rule
+rule_of (Exactly n) = exactly n
+rule_of (AtLeast n) = or_more n
+rule_of ThreeOrFour = either 3 4
+rule_of Corners = corners
+rule_of Any = any
 
 -- ---- house rules, type by type, as the code tests them
 

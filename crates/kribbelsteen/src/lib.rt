@@ -31,6 +31,9 @@ ghost use Rattle.root.specs.Root.{root_of};
 ghost use Rattle.shown.specs.List.{shown_list};
 ghost use Rattle.table_polygon.specs.InTable.{hit_in_table};
 
+use content::Scene;
+use ordered::OrderedScene;
+
 // Reads a scene: the reason or 0, and place, primitives, reals.
 #[unsafe(no_mangle)]
 pub extern "C" fn kribbelsteen_read(
@@ -156,15 +159,17 @@ pub extern "C" fn kribbelsteen_next_line<'a>(
 ) -> u32
     ensures { HostLine left.now left_records.now left_reals.now right.now right_records.now right_reals.now line.old result line.new }
 {
-    host_lines::tell_line(
-        left,
-        left_records,
-        left_reals,
-        right,
-        right_records,
-        right_reals,
-        line,
-    )
+    let left_scene = Scene {
+        text: left,
+        records: left_records,
+        reals: left_reals,
+    };
+    let right_scene = Scene {
+        text: right,
+        records: right_records,
+        reals: right_reals,
+    };
+    host_lines::tell_line(left_scene, right_scene, line)
 }
 
 // Puts the names of a scene in order: the numbers of its records in a table's first half, and the nth of each in the rest.
@@ -197,17 +202,23 @@ pub extern "C" fn kribbelsteen_next_ordered(
 ) -> u32
     ensures { HostOrdered (scene left.now left_records.now left_reals.now left_order.now) (scene right.now right_records.now right_reals.now right_order.now) line.old result line.new }
 {
-    host_lines::tell_ordered(
-        left,
-        left_records,
-        left_reals,
-        left_order,
-        right,
-        right_records,
-        right_reals,
-        right_order,
-        line,
-    )
+    let ordered_left = OrderedScene {
+        scene: Scene {
+            text: left,
+            records: left_records,
+            reals: left_reals,
+        },
+        order: left_order,
+    };
+    let ordered_right = OrderedScene {
+        scene: Scene {
+            text: right,
+            records: right_records,
+            reals: right_reals,
+        },
+        order: right_order,
+    };
+    host_lines::tell_ordered(ordered_left, ordered_right, line)
 }
 
 // Writes a scene out: the reason or 0, and the place of a refusal and the length of the text.

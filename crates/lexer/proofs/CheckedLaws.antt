@@ -5,7 +5,7 @@ use mathlib.Core.Logic.{◌⊎◌, inl, inr}
 use mathlib.Core.Path.{◌≡◌, refl, ap, sym, ◌∙◌}
 use Prim.Native.Nat.{ℕ, suc, ◌+◌, ◌-◌, ◌≤◌, ◌<◌}
 use native.Mathlib.Omega.{arith}
-use borrow.Author.Tests.{leb-true, le-leb, lt-leb}
+use borrow.Author.Tests.{leb-true}
 use lib.Dec.{leb}
 use lib.ListN.{length, length-drop, take, drop, get_or}
 use lib.Seq.{get_or-drop, length-take-le}
@@ -15,8 +15,7 @@ use Rattle.laws.specs.Runs.{all, past, run}
 use Rattle.lexer.proofs.ClassLaws.{blank_not_good}
 use Rattle.lexer.proofs.WordLaws.{scanned}
 use Rattle.lexer.specs.Class.{is_blank, is_good, is_other}
-use Rattle.lexer.specs.Word.{checked_at, ends_word, word_at, word_fault}
-use Rattle.lexer.specs.declared.Checked.{Checked}
+use Rattle.lexer.specs.Word.{Checked, checked_at, ends_word, word_at, word_fault}
 use Rattle.lexer.specs.declared.Word.{Word}
 
 good_other : (b : ℕ) → is_good b ≡ true → is_other b ≡ true
@@ -80,24 +79,6 @@ module _ (text : Bytes) (at place : ℕ) (p : place ≡ past is_blank text at) w
   other_word end f e q =
       let w : ◌≡◌ {A = Word} (record { place = place; len = end - place }) (word_at text at) = scanned text at place end p e in
       λ i. record { place = (w i).place; len = (w i).len; fault = (q ∙ (λ j. word_fault (part text (w j).place (w j).len))) i }
-
--- ---- a place where no word goes on
-
-pub ends_text : (text : Bytes) (at : ℕ) → length text ≤ at → true ≡ ends_word text at
-unfolding ends_word
-ends_text text at h = rw (le-leb (length text) at h)
-
-pub ends_blank : (text : Bytes) (at : ℕ) (b : Bool) → at < length text → b ≡ is_blank (get_or text at 0) → b ≡ ends_word text at
-unfolding ends_word
-ends_blank text at b h e = rw (lt-leb (length text) at h) e
-
--- ---- how long a good word may be
-
-pub too_long : (n : ℕ) → 64 < n → ◌≡◌ {A = ℕ} 3 (cond (leb n 64) 0 3)
-too_long n h = rw (lt-leb n 64 h)
-
-pub short_enough : (n : ℕ) → n ≤ 64 → ◌≡◌ {A = ℕ} 0 (cond (leb n 64) 0 3)
-short_enough n h = rw (le-leb n 64 h)
 
 -- ---- the bytes of a word
 

@@ -5,7 +5,7 @@ use Prim.Native.Nat.{ℕ, ◌≤◌}
 use native.Mathlib.Omega.{arith}
 use borrow.Author.Tests.{leb-true, eqb-true, lt-leb, eq-eqb, ne_eqb}
 use lib.Dec.{leb, eqb}
-use Rattle.lexer.specs.Class.{is_blank, is_other, is_good, is_in_line, is_run, class_of}
+use Rattle.lexer.specs.Class.{is_blank, is_good, is_in_line, class_of}
 
 blank_low : (b : ℕ) → is_blank b ≡ true → b ≤ 32
 unfolding is_blank
@@ -39,17 +39,6 @@ class_good b = go (is_blank b) (is_good b) (blank_not_good b)
     go true q h = sym (h refl)
     go false true h = refl
     go false false h = refl
-
--- a byte goes on with a run of blanks, or of other bytes, as its blankness says
-pub in_run : (blanks : Bool) (b : ℕ) → is_blank b ≡ blanks → is_run blanks b ≡ true
-unfolding is_other
-in_run true b e = e
-in_run false b e = rw e
-
-pub ends_run : (blanks : Bool) (b : ℕ) → is_blank b ≡ not blanks → is_run blanks b ≡ false
-unfolding is_other
-ends_run true b e = e
-ends_run false b e = rw e
 
 -- a byte goes on with a line unless it is byte 10
 pub in_line : (b : ℕ) → (b ≡ 10 → ⊥) → is_in_line b ≡ true

@@ -1,14 +1,16 @@
 -- Two words compared byte by byte.
-use mathlib.Core.Bool.{Bool, true, false, ◌&&◌, and_assoc, and-true}
+use mathlib.Core.Bool.{Bool, true, false, ◌&&◌}
 use mathlib.Core.List.{[], ◌∷◌}
 use mathlib.Core.Path.{◌≡◌, refl, ap, sym, ◌∙◌}
-use Prim.Native.Nat.{ℕ, zero, suc, ◌+◌, ◌-◌, ◌≤◌, ◌<◌}
-use native.Mathlib.Numerals.{add-one}
-use native.Mathlib.Omega.{arith}
+use Prim.Native.Nat.{ℕ, ◌+◌, ◌-◌, ◌≤◌, ◌<◌}
 use borrow.Author.Tests.{eq-eqb, ne_eqb}
 use lib.Dec.{eqb}
-use lib.ListN.{length, take, drop, get_or}
-use lib.Seq.{take_all}
+use lib.ListN.{length, drop, get_or}
+use Rattle.std.proofs.Common.{Option, Some, None}
+use Rattle.std.specs.Borrow.{Bor}
+use Rattle.std.specs.Cmp.Lexicographic.{pointwise}
+use Rattle.std.specs.Option.{option_copied, option_eq}
+use Rattle.std.specs.Prelude.{slice_get}
 use Rattle.laws.proofs.BytesLaws.{same_eq}
 use Rattle.laws.proofs.CompareLaws.{ByElement, lengths_differ, compared_end, compared_stop, compared_step}
 use Rattle.laws.specs.Bytes.{Bytes, same}
@@ -30,34 +32,29 @@ module _ (a b : Bytes) (h : length a ≡ length b) (i : ℕ) where
   pub same_step : i < length a → get_or a i 0 ≡ get_or b i 0 → same (drop (i + 1) a) (drop (i + 1) b) ≡ same (drop i a) (drop i b)
   same_step l e = compared_step by_byte a b h i 0 l (eq-eqb (get_or a i 0) (get_or b i 0) e)
 
--- ---- the first bytes, and one more
-
-same_suc : (a b : Bytes) (i : ℕ) → i < length a → i < length b → (same (take i a) (take i b) && eqb (get_or a i 0) (get_or b i 0)) ≡ same (take (suc i) a) (take (suc i) b)
+-- `==` of two slices says the same
+pub same_is : (a b : Bytes) → pointwise eqb a b ≡ same a b
 unfolding same
-same_suc [] b i l m = absurd (omega arith)
-same_suc (x ∷ a) [] i l m = absurd (omega arith)
-same_suc (x ∷ a) (y ∷ b) zero l m = sym (and-true (eqb x y))
-same_suc (x ∷ a) (y ∷ b) (suc i) l m = and_assoc (eqb x y) (same (take i a) (take i b)) (eqb (get_or a i 0) (get_or b i 0)) ∙ ap (λ (t : Bool). eqb x y && t) (same_suc a b i (omega arith) (omega arith))
+same_is [] [] = refl
+same_is [] (y ∷ b) = refl
+same_is (x ∷ a) [] = refl
+same_is (x ∷ a) (y ∷ b) = ap (λ (t : Bool). eqb x y && t) (same_is a b)
 
-pub same_more : (a b : Bytes) (i n : ℕ) (r : Bool) → i < n → (n ≤ length a) × (n ≤ length b) → r ≡ same (take i a) (take i b) → (r && eqb (get_or a i 0) (get_or b i 0)) ≡ same (take (i + 1) a) (take (i + 1) b)
-same_more a b i n r l m e = rw (add-one, e) (same_suc a b i (omega arith) (omega arith))
+-- ---- the last bytes, as `last` gives them
 
-module _ (a b : Bytes) (h : length a ≡ length b) where
-  pub same_none : length a ≡ 0 → true ≡ same a b
-  same_none z = sym (same_end a b h 0 (omega arith))
+abbrev alike : Option (Bor ℕ) → Option (Bor ℕ) → Bool
+alike = option_eq (λ x y. eqb x.now y.now)
 
-  -- the bytes but the last are the same, and so is it
-  pub same_last : (r : Bool) → (length a ≡ 0 → ⊥) → get_or a (length a - 1) 0 ≡ get_or b (length a - 1) 0 → r ≡ same (take (length a - 1) a) (take (length a - 1) b) → r ≡ same a b
-  same_last r z e q =
-      sym (and-true r)
-      ∙ ap (λ (t : Bool). r && t) (sym (eq-eqb (get_or a (length a - 1) 0) (get_or b (length a - 1) 0) e))
-      ∙ same_more a b (length a - 1) (length a) r (omega (arith, z)) (omega arith, omega arith) q
-      ∙ (λ i. same (take_all (length a - 1 + 1) a (omega arith) i) (take_all (length a - 1 + 1) b (omega arith) i))
+alike_refl : (p q : Option (Bor ℕ)) → option_copied p ≡ option_copied q → alike p q ≡ true
+alike_refl None None e = refl
+alike_refl None (Some y) e = cc
+alike_refl (Some x) None e = cc
+alike_refl (Some x) (Some y) e = let h : x.now ≡ y.now = cc in eq-eqb x.now y.now h
 
--- one byte is not the same
-pub one_differs : (a b : Bytes) (i : ℕ) → (get_or a i 0 ≡ get_or b i 0 → ⊥) → false ≡ same a b
-one_differs a b i f = go (same a b) refl
+-- where they differ, the words do
+pub last_differs : (a b : Bytes) (p q : Option (Bor ℕ)) (r : Bool) → option_copied p ≡ slice_get a (length a - 1) → option_copied q ≡ slice_get b (length b - 1) → r ≡ alike p q → r ≡ false → false ≡ same a b
+last_differs a b p q r f g e d = go (same a b) refl
   where
     go : (c : Bool) → same a b ≡ c → false ≡ c
-    go true e = absurd (f (ap (λ (w : Bytes). get_or w i 0) (same_eq a b e)))
-    go false e = refl
+    go true h = sym d ∙ e ∙ alike_refl p q (f ∙ ap (λ (w : Bytes). slice_get w (length w - 1)) (same_eq a b h) ∙ sym g)
+    go false h = refl

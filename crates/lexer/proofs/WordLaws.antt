@@ -1,9 +1,10 @@
 -- What is known of the word at or after a place.
-use mathlib.Core.Bool.{true, false}
-use mathlib.Core.Path.{◌≡◌, refl, sym, ap, ◌∙◌}
-use Prim.Native.Nat.{ℕ, zero, suc, ◌+◌, ◌-◌, ◌≤◌, ◌<◌, min}
+use mathlib.Core.Bool.{true, false, cond}
+use mathlib.Core.Path.{◌≡◌, sym, ap, ◌∙◌}
+use Prim.Native.Nat.{ℕ, suc, ◌+◌, ◌-◌, ◌≤◌, ◌<◌, min}
 use native.Mathlib.Omega.{arith}
-use borrow.Author.Tests.{not-true, not-false, le-leb, lt-leb}
+use borrow.Author.Tests.{not-true, not-false, le-leb}
+use lib.Dec.{leb}
 use lib.ListN.{length, drop, get_or, length-drop}
 use lib.Seq.{get_or-drop}
 use Rattle.laws.proofs.RunLaws.{run_length, run_passes, run_stops, past_most, past_least, past_run}
@@ -59,21 +60,19 @@ module _ (w : Bytes) where
   unfolding word_fault
   fault_bad e = rw e
 
-  pub fault_long : all is_good w ≡ true → 64 < length w → word_fault w ≡ 3
+  pub fault_length : all is_good w ≡ true → word_fault w ≡ cond (leb (length w) 64) 0 3
   unfolding word_fault
-  fault_long e h = rw (e, lt-leb (length w) 64 h)
+  fault_length e = rw e
 
   pub fault_none : all is_good w ≡ true → length w ≤ 64 → word_fault w ≡ 0
   unfolding word_fault
   fault_none e h = rw (e, le-leb (length w) 64 h)
 
--- words that are passed over: none are left, or one is passed
-pub skipped_none : (text : Bytes) (at left : ℕ) → left ≤ 0 → at ≡ behind_words text at left
+-- words that are passed over: one more is passed, and all are
+pub skipped_more : (text : Bytes) (at count i : ℕ) → i < count → {next : ℕ} → next ≡ word_end text at → behind_words text next (count - (i + 1)) ≡ behind_words text at (count - i)
 unfolding behind_words
-skipped_none text at zero h = refl
-skipped_none text at (suc n) h = absurd (omega arith)
+skipped_more text at count i h e = let m : count - i ≡ suc (count - (i + 1)) = omega arith in rw m (ap (λ (k : ℕ). behind_words text k (count - (i + 1))) e)
 
-pub skipped_more : (text : Bytes) (at left : ℕ) → 0 < left → {next : ℕ} → next ≡ word_end text at → behind_words text next (left - 1) ≡ behind_words text at left
+pub skipped_all : (text : Bytes) (at count i : ℕ) → count ≤ i → at ≡ behind_words text at (count - i)
 unfolding behind_words
-skipped_more text at zero h e = absurd (omega arith)
-skipped_more text at (suc n) h e = let m : suc n - 1 ≡ n = omega arith in λ i. behind_words text (e i) (m i)
+skipped_all text at count i h = let m : count - i ≡ 0 = omega arith in rw m

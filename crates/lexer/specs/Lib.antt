@@ -1,3 +1,4 @@
 -- To be believed.
 pub mod Class
+pub mod Fault
 pub mod Word

@@ -3,7 +3,8 @@ use Rattle.std.specs.Prelude.{Bool, ◌||◌, cond, ℕ, zero, suc, ◌+◌, leb
 use Rattle.laws.specs.Bytes.{Bytes, part}
 use Rattle.laws.specs.Runs.{all, run, past}
 use Rattle.lexer.specs.Class.{is_blank, is_other, is_good}
-use Rattle.lexer.specs.declared.Checked.{Checked}
+use Rattle.lexer.specs.Fault.{fault_number}
+use Rattle.lexer.specs.declared.Checked.{Checked as CheckedWord}
 use Rattle.lexer.specs.declared.Word.{Word}
 
 -- the word at or after a place: blanks are skipped, and "a word is a longest run of other bytes";
@@ -29,6 +30,15 @@ behind_words text at (suc n) = behind_words text (word_end text at) n
 -- "2 bad byte in a word", "3 word over 64 bytes"; "at one place, the lowest number"; 0 for a good word
 unfoldable pub word_fault : Bytes → ℕ
 word_fault w = cond (all is_good w) (cond (leb (length w) 64) 0 3) 2
+
+-- a word with the number of its fault, 0 for none
+pub record Checked : Type 0 where
+  pub place : ℕ
+  pub len : ℕ
+  pub fault : ℕ
+
+abbrev pub checked_of : CheckedWord → Checked
+checked_of c = record { place = c.place; len = c.len; fault = fault_number c.fault }
 
 -- the word at or after a place with its fault
 abbrev pub checked_at : Bytes → ℕ → Checked

@@ -1,71 +1,63 @@
 // The bytes and words of a text.
 #![tactic(auto)]
 
-ghost use Rattle.std.specs.Prelude.{cond, ◌≡◌, ◌≤◌, min, leb, length, take};
+ghost use Rattle.std.specs.Prelude.{Bool, cond, ℕ, ◌≡◌, min, leb};
 ghost use Rattle.laws.specs.Bytes.{part, same};
 ghost use Rattle.laws.specs.Runs.{past};
-ghost use Rattle.lexer.specs.Class.{class_of, is_blank, is_good, is_in_line, is_other, is_run};
-ghost use Rattle.lexer.specs.Word.{behind_words, checked_at, ends_word, word_at, word_bytes, word_end, word_fault};
+ghost use Rattle.lexer.specs.Class.{class_number, class_of, is_blank, is_good, is_in_line, is_other};
+ghost use Rattle.lexer.specs.Fault.{fault_number, number_of};
+ghost use Rattle.lexer.specs.Word.{behind_words, checked_at, checked_of, ends_word, word_at, word_bytes, word_end, word_fault};
 
-pub const BLANK: u8 = 0;
-
-pub const GOOD: u8 = 1;
-
-pub const BAD: u8 = 2;
-
-// The class of each byte.
-const CLASSES: [u8; 256] = [
-    2, 2, 2, 2, 2, 2, 2, 2, 2, 0, // 9, the first blank
-    0, 0, 0, 0, // 13
-    2, 2, 2, 2, 2, 2, 2, 2, 2, 2, 2, 2, 2, 2, 2, 2, 2, 2, 0, // 32, the space
-    1, // 33, the first good byte
-    1, 1, 1, 1, 1, 1, 1, 1, 1, 1, 1, 1, 1, 1, 1, 1, 1, 1, 1, 1, 1, 1, 1, 1, 1, 1, 1, 1, 1, 1, 1, 1,
-    1, 1, 1, 1, 1, 1, 1, 1, 1, 1, 1, 1, 1, 1, 1, 1, 1, 1, 1, 1, 1, 1, 1, 1, 1, 1, 1, 1, 1, 1, 1, 1,
-    1, 1, 1, 1, 1, 1, 1, 1, 1, 1, 1, 1, 1, 1, 1, 1, 1, 1, 1, 1, 1, 1, 1, 1, 1, 1, 1, 1, 1, // 126, the last good byte
-    2, 2, 2, 2, 2, 2, 2, 2, 2, 2, 2, 2, 2, 2, 2, 2, 2, 2, 2, 2, 2, 2, 2, 2, 2, 2, 2, 2, 2, 2, 2, 2,
-    2, 2, 2, 2, 2, 2, 2, 2, 2, 2, 2, 2, 2, 2, 2, 2, 2, 2, 2, 2, 2, 2, 2, 2, 2, 2, 2, 2, 2, 2, 2, 2,
-    2, 2, 2, 2, 2, 2, 2, 2, 2, 2, 2, 2, 2, 2, 2, 2, 2, 2, 2, 2, 2, 2, 2, 2, 2, 2, 2, 2, 2, 2, 2, 2,
-    2, 2, 2, 2, 2, 2, 2, 2, 2, 2, 2, 2, 2, 2, 2, 2, 2, 2, 2, 2, 2, 2, 2, 2, 2, 2, 2, 2, 2, 2, 2, 2,
-    2,
-];
+// What a byte is to a text of words: it separates them, may stand in one, or may not.
+#[derive(Clone, Copy, PartialEq, Eq, Debug)]
+pub enum Class {
+    Blank,
+    Good,
+    Bad,
+}
 
 // A word of a text: where it starts and how many bytes it has.
-#[derive(Clone, Copy)]
+#[derive(Clone, Copy, PartialEq, Eq, Debug)]
 pub struct Word {
     pub place: usize,
     pub len: usize,
 }
 
-pub fn class_of(b: u8) -> u8
-    ensures { result ≡ class_of b }
+#[tactic(auto, unfolding(crate::specs::Class::class_of, crate::specs::Class::is_blank, crate::specs::Class::is_good))]
+pub fn class_of(b: u8) -> Class
+    ensures { class_number result ≡ class_of b }
 {
-    CLASSES[b as usize]
+    match b {
+        9..=13 | 32 => Class::Blank,
+        33..=126 => Class::Good,
+        _ => Class::Bad,
+    }
 }
 
-// The loops over a text test the ranges themselves: a constant table is laid out anew at each use.
+#[tactic(auto, unfolding(crate::specs::Class::is_blank))]
 pub fn is_blank(b: u8) -> bool
     ensures { result ≡ is_blank b }
 {
-    (9 <= b) & (b <= 13) | (b == 32)
+    matches!(b, 9..=13 | 32)
 }
 
+#[tactic(auto, unfolding(crate::specs::Class::is_good))]
 fn is_good(b: u8) -> bool
     ensures { result ≡ is_good b }
 {
-    (33 <= b) & (b <= 126)
+    b.is_ascii_graphic()
 }
 
-// The end of the run of blanks, or of other bytes, that starts at `at`: the first place from there on whose byte is none,
-// or the text's length.
-fn run_end(text: &[u8], at: usize, blanks: bool) -> usize
-    ensures { result ≡ past (is_run blanks) text.now at }
+// The first place from `at` on whose byte does not pass, or the text's length. Whatever definition the test meets, the place is that
+// of the definition.
+fn scan<F: Fn(u8) -> bool>(text: &[u8], at: usize, passes: F) -> usize
+    requires { F.IsAlwaysCallable passes }
+    ensures { (test : ℕ → Bool) → ((b : ℕ) (r : Bool) → F.post passes b r → r ≡ test b) → result ≡ past test text.now at }
 {
-    let mut i = at;
-    while i < text.len() {
-        if is_blank(text[i]) != blanks {
+    for i in at..text.len() {
+        if !passes(text[i]) {
             return i;
         }
-        i += 1;
     }
     text.len()
 }
@@ -74,28 +66,21 @@ fn run_end(text: &[u8], at: usize, blanks: bool) -> usize
 pub fn skip_blanks(text: &[u8], at: usize) -> usize
     ensures { result ≡ past is_blank text.now at }
 {
-    run_end(text, at, true)
+    scan(text, at, is_blank)
 }
 
 // The first place from `at` on that holds a blank, or the text's length.
 pub fn word_end(text: &[u8], at: usize) -> usize
     ensures { result ≡ past is_other text.now at }
 {
-    run_end(text, at, false)
+    scan(text, at, |b| !is_blank(b))
 }
 
 // The first place from `at` on that holds byte 10, or the text's length.
 pub fn line_end(text: &[u8], at: usize) -> usize
     ensures { result ≡ past is_in_line text.now at }
 {
-    let mut i = at;
-    while i < text.len() {
-        if text[i] == 10 {
-            return i;
-        }
-        i += 1;
-    }
-    text.len()
+    scan(text, at, |b| b != b'\n')
 }
 
 // The next word from `at` on; at or past the end an empty word at the text's length.
@@ -114,8 +99,8 @@ pub fn next_word(text: &[u8], at: usize) -> Word
 pub fn part(text: &[u8], place: usize, len: usize) -> &[u8]
     ensures { result.now ≡ part text.now place len }
 {
-    let start = least(place, text.len());
-    let end = start + least(len, text.len() - start);
+    let start = place.min(text.len());
+    let end = start + len.min(text.len() - start);
     &text[start..end]
 }
 
@@ -140,10 +125,8 @@ pub fn skip_words(text: &[u8], at: usize, count: usize) -> usize
     ensures { result ≡ behind_words text.now at count }
 {
     let mut place = at;
-    let mut left = count;
-    while 0 < left {
+    for _ in 0..count {
         place = past_word(text, place);
-        left -= 1;
     }
     place
 }
@@ -152,98 +135,79 @@ pub fn skip_words(text: &[u8], at: usize, count: usize) -> usize
 pub fn least(a: usize, b: usize) -> usize
     ensures { result ≡ min a b }
 {
-    if a < b { a } else { b }
-}
-
-// Whether the first n bytes of two words are the same. Each is compared, with no branch, so that many go at a time.
-fn all_same(a: &[u8], b: &[u8], n: usize) -> bool
-    requires { (n ≤ length a.now) × (n ≤ length b.now) }
-    ensures { result ≡ same (take n a.now) (take n b.now) }
-{
-    let mut ok = true;
-    let mut i = 0;
-    while i < n {
-        ok = ok & (a[i] == b[i]);
-        i += 1;
-    }
-    ok
+    a.min(b)
 }
 
 // Whether two words have the same bytes. The last byte is compared first: names of a kind mostly differ there.
 pub fn same(a: &[u8], b: &[u8]) -> bool
     ensures { result ≡ same a.now b.now }
 {
-    if a.len() != b.len() {
-        return false;
-    }
-    if a.len() == 0 {
-        return true;
-    }
-    let last = a.len() - 1;
-    if a[last] != b[last] {
-        return false;
-    }
-    all_same(a, b, last)
+    a.len() == b.len() && a.last() == b.last() && a == b
 }
 
 // The first place from `at` on whose byte is not good in a word, or the text's length.
 pub fn good_end(text: &[u8], at: usize) -> usize
     ensures { result ≡ past is_good text.now at }
 {
-    let mut i = at;
-    while i < text.len() {
-        if !is_good(text[i]) {
-            return i;
-        }
-        i += 1;
-    }
-    text.len()
+    scan(text, at, is_good)
 }
 
-// The reason for refusing a word by its bytes alone: 2 for a bad byte, 3 for over 64 bytes, else 0.
-pub fn word_fault(word: &[u8]) -> u8
-    ensures { result ≡ word_fault word.now }
+// Why a word is refused by its bytes alone. The numbers are those of the reasons.
+#[derive(Clone, Copy, PartialEq, Eq, Debug)]
+pub enum WordFault {
+    BadByte = 2,
+    TooLong = 3,
+}
+
+impl WordFault {
+    pub fn number(self) -> u32
+        ensures { result ≡ number_of self }
+    {
+        self as u32
+    }
+}
+
+// A bad byte comes before a length of over 64 bytes.
+pub fn word_fault(word: &[u8]) -> Option<WordFault>
+    ensures { fault_number result ≡ word_fault word.now }
 {
     if good_end(word, 0) < word.len() {
-        return 2;
+        return Some(WordFault::BadByte);
     }
-    if 64 < word.len() {
-        return 3;
-    }
-    0
+    long_fault(word.len())
 }
 
-// A word with the reason for refusing it by its bytes, 0 for none.
-#[derive(Clone, Copy)]
+// A word with what is wrong with its bytes.
+#[derive(Clone, Copy, PartialEq, Eq, Debug)]
 pub struct Checked {
     pub place: usize,
     pub len: usize,
-    pub fault: u8,
+    pub fault: Option<WordFault>,
 }
 
 // Whether no word goes on at a place: a blank or the text's end is there.
+#[tactic(auto, unfolding(crate::specs::Word::ends_word))]
 pub fn ends_word(text: &[u8], at: usize) -> bool
     ensures { result ≡ ends_word text.now at }
 {
-    if text.len() <= at {
-        return true;
+    match text.get(at) {
+        Some(b) => is_blank(*b),
+        None => true,
     }
-    is_blank(text[at])
 }
 
-// 3 for a word of over 64 bytes, else 0.
-fn long_fault(len: usize) -> u8
-    ensures { result ≡ cond (leb len 64) 0 3 }
+fn long_fault(len: usize) -> Option<WordFault>
+    ensures { fault_number result ≡ cond (leb len 64) 0 3 }
 {
     if 64 < len {
-        return 3;
+        return Some(WordFault::TooLong);
     }
-    0
+    None
 }
 
 // The next word from `at` on and its fault. A good word is gone over once.
 pub fn checked_word(text: &[u8], at: usize) -> Checked
-    ensures { result ≡ checked_at text.now at }
+    ensures { checked_of result ≡ checked_at text.now at }
 {
     let place = skip_blanks(text, at);
     let end = good_end(text, place);

@@ -11,20 +11,14 @@ use table::{LINE, NAME};
 pub fn ends_line(b: u8) -> usize
     ensures { result ≡ cond (eqb b 10) 1 0 }
 {
-    if b == b'\n' { 1 } else { 0 }
+    usize::from(b == b'\n')
 }
 
 // How many lines end in a text.
 fn line_ends(text: &[u8]) -> usize
     ensures { result ≡ newlines text.now }
 {
-    let mut lines = 0;
-    let mut i = 0;
-    while i < text.len() {
-        lines += ends_line(text[i]);
-        i += 1;
-    }
-    lines
+    text.iter().filter(|b| **b == b'\n').count()
 }
 
 // The line of a place, from 1.
@@ -51,7 +45,7 @@ pub fn line_of(text: &[u8], records: &[u32], count: usize, place: usize) -> usiz
     ensures { result ≡ line_from text.now records.now count place }
 {
     let from = table::field(records, count, NAME) as usize;
-    let passed = lexer::part(text, from, place - lexer::least(from, place));
+    let passed = lexer::part(text, from, place.saturating_sub(from));
     let more = line_ends(passed);
     line_before(records, count) + more
 }

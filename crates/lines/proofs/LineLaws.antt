@@ -1,7 +1,7 @@
 -- Words one behind the other, each after a space, and the line of no words.
 use mathlib.Core.List.{List, [], ◌∷◌, ◌++◌, append_assoc, append-nil}
 use mathlib.Core.Path.{◌≡◌, refl, sym, ap, ◌∙◌}
-use Prim.Native.Nat.{ℕ, zero, suc, ◌-◌, ◌≤◌, ◌<◌}
+use Prim.Native.Nat.{ℕ, zero, suc, ◌≤◌}
 use native.Mathlib.Omega.{arith}
 use lib.ListN.{length}
 use Rattle.buffer.specs.Decimal.{decimal}
@@ -15,10 +15,9 @@ unfolding spaced words_from
 no_words text at zero h = refl
 no_words text at (suc n) h = absurd (omega arith)
 
-pub next_word : (text : Bytes) (at left : ℕ) → 0 < left → (word : Bytes) → word ≡ word_bytes text at → (next : ℕ) → next ≡ word_end text at → spaced (words_from text at left) ≡ (byte " " ∷ word) ++ spaced (words_from text next (left - 1))
+pub next_word : (text : Bytes) (at left rest : ℕ) → left ≡ suc rest → (word : Bytes) → word ≡ word_bytes text at → (next : ℕ) → next ≡ word_end text at → spaced (words_from text at left) ≡ (byte " " ∷ word) ++ spaced (words_from text next rest)
 unfolding spaced words_from
-next_word text at zero h word d next e = absurd (omega arith)
-next_word text at (suc n) h word d next e = let m : suc n - 1 ≡ n = omega arith in λ i. byte " " ∷ (sym d i ++ spaced (words_from text (sym e i) (sym m i)))
+next_word text at left rest h word d next e = rw h (λ i. byte " " ∷ (sym d i ++ spaced (words_from text (sym e i) rest)))
 
 pub words_length : (text : Bytes) (at n : ℕ) → length (words_from text at n) ≡ n
 unfolding words_from

@@ -9,7 +9,7 @@ ghost use Rattle.lines.specs.Arguments.{argument_lines};
 ghost use Rattle.lines.specs.Puts.{Puts};
 
 // Where the next byte goes, and whether some byte did not fit.
-#[derive(Clone, Copy)]
+#[derive(Clone, Copy, PartialEq, Eq, Debug)]
 pub struct Cursor {
     pub at: usize,
     pub full: bool,
@@ -18,7 +18,7 @@ pub struct Cursor {
 pub fn put(out: &mut [u8], c: Cursor, new: &[u8]) -> Cursor
     ensures { Puts out.old c new.now result out.new }
 {
-    let room = out.len() - lexer::least(c.at, out.len());
+    let room = out.len().saturating_sub(c.at);
     let full = c.full | (room < new.len());
     let at = buffer::put_bytes(out, c.at, new);
     Cursor { at, full }
@@ -38,11 +38,9 @@ pub fn put_words(out: &mut [u8], c: Cursor, text: &[u8], from: usize, count: usi
 {
     let mut end = c;
     let mut place = from;
-    let mut left = count;
-    while 0 < left {
+    for _ in 0..count {
         end = put_spaced(out, end, lexer::word_bytes(text, place));
         place = lexer::past_word(text, place);
-        left -= 1;
     }
     end
 }

@@ -10,12 +10,6 @@ use index::Found;
 use statement::{Draft, State, narrow};
 use table::{NEXT, WIDTH};
 
-fn wide(n: u32) -> usize
-    ensures { result ≡ n }
-{
-    n as usize
-}
-
 // Stores a draft as row `n`, counted from 0, with no next of its name, and the line of its name. Number by number: a row that is
 // put together first and copied then waits for its own parts.
 fn put_row(records: &mut [u32], n: usize, d: Draft, line: u32)
@@ -61,7 +55,7 @@ fn earlier(text: &[u8], records: &[u32], index: &[u32], count: usize, d: Draft) 
             looked: 0,
         };
     }
-    let name = lexer::part(text, wide(d.name), wide(d.size));
+    let name = lexer::part(text, d.name as usize, d.size as usize);
     index::search(text, records, index, count, name)
 }
 
@@ -102,7 +96,7 @@ pub fn enter(text: &[u8], records: &mut [u32], index: &mut [u32], t: State) -> S
     }
     let d = t.draft;
     let last = count + 1;
-    let line = narrow(line_numbers::line_of(text, records, count, wide(d.name)));
+    let line = narrow(line_numbers::line_of(text, records, count, d.name as usize));
     let u = statement::counted(t, enter_row(text, records, index, count, d, line));
     statement::between(t.at, last, t.used, u.looked)
 }

@@ -7,25 +7,17 @@ ghost use Rattle.scene.specs.Record.{width};
 
 use table::{KIND, NAME, NAME_LENGTH, WIDTH};
 
-fn wide(n: u32) -> usize
-    ensures { result ≡ n }
-{
-    n as usize
-}
-
 // The number of the latest of the first `count` records, no surface, whose name has no bytes; 0 for none.
 fn find_empty(text: &[u8], records: &[u32], count: usize) -> usize
     ensures { result ≡ latest_in text.now records.now [] count }
 {
-    let mut n = count;
-    while 0 < n {
+    for n in (1..=count).rev() {
         let size = table::field(records, n, NAME_LENGTH);
-        let name = wide(table::field(records, n, NAME));
+        let name = table::field(records, n, NAME) as usize;
         let surface = kinds::is_surface(table::field(records, n, KIND));
         if (size == 0) & (name <= text.len()) & !surface {
             return n;
         }
-        n -= 1;
     }
     0
 }
@@ -36,7 +28,7 @@ pub fn find(text: &[u8], records: &[u32], count: usize, word: &[u8]) -> usize
     ensures { result ≡ latest_in text.now records.now word.now (min count (length records.now / width)) }
 {
     let len = word.len();
-    let mut n = lexer::least(count, records.len() / WIDTH);
+    let n = count.min(records.len() / WIDTH);
     if len == 0 {
         return find_empty(text, records, n);
     }
@@ -46,33 +38,27 @@ pub fn find(text: &[u8], records: &[u32], count: usize, word: &[u8]) -> usize
     let most = text.len() - len;
     let end = len - 1;
     let last = word[end];
-    let found = 'search: loop {
-        if n == 0 {
-            break 'search 0;
-        }
-        n -= 1;
-        let size = wide(records[n * WIDTH + NAME_LENGTH]);
+    'search: for row in (0..n).rev() {
+        let size = records[row * WIDTH + NAME_LENGTH] as usize;
         if size != len {
-            continue 'search;
+            continue;
         }
-        let name = wide(records[n * WIDTH + NAME]);
+        let name = records[row * WIDTH + NAME] as usize;
         if most < name {
-            continue 'search;
+            continue;
         }
         if text[name + end] != last {
-            continue 'search;
+            continue;
         }
-        let mut i = end;
-        while 0 < i {
-            i -= 1;
+        for i in (0..end).rev() {
             if text[name + i] != word[i] {
                 continue 'search;
             }
         }
-        if kinds::is_surface(records[n * WIDTH + KIND]) {
-            continue 'search;
+        if kinds::is_surface(records[row * WIDTH + KIND]) {
+            continue;
         }
-        break 'search n + 1;
-    };
-    found
+        return row + 1;
+    }
+    0
 }

@@ -26,12 +26,10 @@ pub fn first_loop(records: &[u32], pairs: &[u32], marks: &mut [u32]) -> usize
     ensures marks_len_unchanged { length marks.new ≡ length marks.old }
     ensures finds { Finds (graph_of records.now pairs.now) (length marks.old) result }
 {
-    let mut n = 1;
-    while n < marks.len() {
+    for n in 1..marks.len() {
         if is_looped(records, pairs, marks, n) {
             return n;
         }
-        n += 1;
     }
     0
 }

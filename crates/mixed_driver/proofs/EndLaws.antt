@@ -9,9 +9,7 @@ use lib.Dec.{leb}
 use borrow.Author.Tests.{le-leb, leb-true, lt-leb}
 use lib.Ieee.{Float}
 use lib.ListN.{length, length-replicate, replicate}
-use Rattle.driver.specs.Ending.{Ends, ending, index_after}
-use Rattle.driver.specs.declared.End.{End}
-use Rattle.driver.specs.declared.End.TheVariants.{Accepted, Refused}
+use Rattle.driver.specs.Ending.{Accepted, End, Ends, Refused, ending, index_after}
 use Rattle.graph.specs.Answers.{lowest_loop}
 use Rattle.laws.proofs.BoolLaws.{not_false, not_true}
 use Rattle.laws.specs.Bytes.{Bytes}
@@ -29,9 +27,8 @@ use Rattle.scene.specs.declared.Settings.{Settings}
 use Rattle.sides.proofs.SideLaws.{zero_pairs}
 use Rattle.sides.specs.Read.{first_unknown, mixed, read, settled}
 use Rattle.sides.specs.Sides.{pair_image, scene_graph}
-use Rattle.validation.specs.Validated.{ValidatedAs, Validates, told_as}
-use Rattle.validation.specs.declared.Validity.{Validity}
-use Rattle.validation.specs.declared.Validity.TheVariants as told
+use Rattle.validation.specs.Validated as told
+use Rattle.validation.specs.Validated.{ValidatedAs, Validates, Validity, told_as}
 
 -- ---- the reading behind an end
 

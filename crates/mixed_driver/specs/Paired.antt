@@ -1,7 +1,6 @@
 -- Reading with a lent pair table: how it ends, and what all tables hold then.
 use Rattle.std.specs.Prelude.{Bool, cond, List, ◌≡◌, ℕ, ◌*◌, ◌/◌, min, leb, Float, length}
-use Rattle.driver.specs.Ending.{ending, index_after}
-use Rattle.driver.specs.declared.End.{End}
+use Rattle.driver.specs.Ending.{End, ending, index_after}
 use Rattle.laws.specs.Bytes.{Bytes}
 use Rattle.scene.specs.Reading.{Reading, refused}
 use Rattle.scene.specs.Record.{real_image, record_image, settings_for, width}

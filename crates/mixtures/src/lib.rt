@@ -9,37 +9,22 @@ ghost use Rattle.mixtures.specs.Walk.{ReachesFrom, Steps, StepsAside};
 
 use table::{KIND, MODIFIER};
 
-fn wide(n: u32) -> usize
-    ensures { result ≡ n }
-{
-    n as usize
-}
-
 // Side k of primitive n, 0 its foreground and 1 its background; 0 where the table has none.
+#[tactic(auto, unfolding(graph::specs::Graph::side_in))]
 pub fn side(pairs: &[u32], n: usize, k: usize) -> usize
     ensures { result ≡ side_in pairs.now n k }
 {
     if n == 0 {
         return 0;
     }
-    let row = n - 1;
-    if pairs.len() / 2 < row {
-        return 0;
-    }
-    let at = row * 2;
-    if pairs.len() <= at {
-        return 0;
-    }
-    if pairs.len() - at <= k {
-        return 0;
-    }
-    wide(pairs[at + k])
+    let at = (n - 1).saturating_mul(2).saturating_add(k);
+    pairs.get(at).copied().unwrap_or(0) as usize
 }
 
 fn modifier(records: &[u32], n: usize) -> usize
     ensures { result ≡ field_in records.now n 1 }
 {
-    wide(table::field(records, n, MODIFIER))
+    table::field(records, n, MODIFIER) as usize
 }
 
 // Whether the walk goes on from a primitive that it reached.
@@ -113,7 +98,7 @@ pub fn reach(records: &[u32], pairs: &[u32], marks: &mut [u32], n: usize, throug
     ensures marks_len_unchanged { length marks.new ≡ length marks.old }
     ensures reaches_from { ReachesFrom (graph_of records.now pairs.now) through n (length marks.old) marks.new }
 {
-    table::clear_numbers(marks);
+    marks.fill(0);
     let depth = marks.len();
     modifier_step(records, pairs, marks, modifier(records, n), depth, through);
     mixture_step(records, pairs, marks, n, depth, through);

@@ -103,10 +103,8 @@ pub fn put_all(
     ensures { Puts out.old (record { at = 0; full = false }) (moved_rows direction text.now records.now count) result out.new }
 {
     let mut end = Cursor { at: 0, full: false };
-    let mut n = 0;
-    while n < count {
-        n += 1;
-        end = put_moved(out, end, direction, text, records, n);
+    for n in 0..count {
+        end = put_moved(out, end, direction, text, records, n + 1);
     }
     end
 }

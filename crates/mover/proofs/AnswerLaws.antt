@@ -1,17 +1,17 @@
 -- The call's answer and output, from what its parts give.
 use mathlib.Core.Bool.{Bool, true, false, cond, not}
-use mathlib.Core.List.{List, [], ◌++◌}
-use mathlib.Core.Path.{◌≡◌, refl, sym, ap, ◌∙◌}
+use mathlib.Core.List.{List}
+use mathlib.Core.Path.{◌≡◌, refl, sym, ap, ◌∙◌, subst}
 use Prim.Native.Nat.{ℕ, ◌-◌, ◌≤◌, min}
 use native.Mathlib.Omega.{arith}
 use borrow.Author.Tests.{eq-eqb, ltb-false, ne_eqb}
 use lib.Dec.{leb, ltb}
 use lib.Ieee.{Float}
-use lib.ListN.{length, replicate, take}
+use lib.ListN.{length, take}
 use Rattle.buffer.proofs.PutLaws.{front, length_put}
 use Rattle.buffer.specs.Put.{behind, put}
 use Rattle.fresh.specs.Fresh.{fresh_of}
-use Rattle.fresh.specs.declared.Fresh.TheVariants as fresh
+use Rattle.fresh.specs.Fresh as fresh
 use Rattle.laws.proofs.NatLaws.{ltb_not}
 use Rattle.laws.specs.Bytes.{Bytes, part}
 use Rattle.lines.specs.Puts.{Puts}
@@ -23,19 +23,18 @@ use Rattle.moving.specs.declared.Direction.{Direction}
 use Rattle.reader.specs.Answer.{read_into}
 use Rattle.scene.specs.Links.{reals_used}
 use Rattle.scene.specs.Reading.{Entry, accepted, read_statements, statements}
-use Rattle.scene.specs.Record.{filled, record_image, settings_for}
+use Rattle.scene.specs.Record.{record_image, settings_for}
 use Rattle.scene.specs.Statement.{Statement}
 use Rattle.scene.specs.declared.Mode.{Mode}
 use Rattle.scene.specs.declared.Settings.{Settings}
 use Rattle.tidying.specs.Tidy.{tidy}
-use Rattle.writer.proofs.AnswerLaws.{refused_as, same_as}
-use Rattle.writer.specs.Answer.{Outcome, answered, checked, output, refused, written}
-use Rattle.writer.specs.declared.Answer.{Answer}
-use Rattle.writer.specs.declared.Answer.TheVariants as call
+use Rattle.writer.proofs.AnswerLaws.{leaves_refused, same_as}
+use Rattle.writer.specs.Answer.{Answer, Outcome, Refused, Written, refused, written}
+use Rattle.writer.specs.Left.{Leaves}
 use Rattle.mover.proofs.RealsLaws.{reals_counted}
 use Rattle.mover.proofs.RefusalLaws.{capped_fits, not_refused}
-use Rattle.mover.specs.Answer.{Moves, moved_outcome, moved_refusal, outcome_for}
-use Rattle.mover.specs.Code.{WritesMoved, reals_to}
+use Rattle.mover.specs.Answer.{moved_by, moved_outcome, moved_refusal, outcome_for}
+use Rattle.mover.specs.Code.{LeavesMoved, reals_to}
 
 -- ---- what was put from the front of a space on that holds as much as a reading takes
 
@@ -69,13 +68,9 @@ module _ (space : Bytes) (size : length space ≡ 65536) {t made : Bytes} {r : C
       go true f = refl
       go false f = λ i. cond ((ap (λ (k : ℕ). leb k room) e ∙ capped_fits all room h) i) (cond (leb (end_is f i) out) 0 23) 13
 
--- a text in an output that holds it, and zeros behind it
-cleared_behind : (out t : Bytes) (len : ℕ) → len ≡ length t → length t ≤ length out → take len (put out 0 t) ++ replicate (length (put out 0 t) - len) 0 ≡ filled 0 (length out) t
-cleared_behind out t len e h =
-    let end : len ≡ behind out 0 t = omega arith in
-    let all : take len (put out 0 t) ≡ t = ap (λ (k : ℕ). take k (put out 0 t)) end ∙ front out t h in
-    let rest : length (put out 0 t) - len ≡ length out - length t = omega (arith, length_put out 0 t) in
-    λ i. all i ++ replicate (rest i) 0
+-- a text put in front of an output that holds it
+in_front : (out t : Bytes) → length t ≤ length out → take (length t) (put out 0 t) ≡ t
+in_front out t h = let end : length t ≡ behind out 0 t = omega arith in ap (λ (k : ℕ). take k (put out 0 t)) end ∙ front out t h
 
 -- ---- the records of a text moved
 
@@ -103,36 +98,28 @@ module _ {made : Bytes} {r : Cursor} {reals reason : ℕ} (m : Direction) (text 
         ∙ (λ i. outcome_for (refusal_is space size p reals (reals_used D) room (length out) reals_are possible i) (tidy D))
         ∙ (λ i. outcome_for (moved_refusal (not (leb (length (text_is i)) 65536)) (reals_used D) room (length (text_is i)) (length out)) (tidy D)))
 
-  pub writes_refused : {out' : Bytes} → (reason ≡ 0 → ⊥) → out' ≡ filled 0 (length out) [] → WritesMoved m text T room count out (call.Refused reason 0) out'
-  writes_refused h z = λ s es k reads own all possible.
-      let o = outcome_is s es k reads own all possible ∙ outcome_refused reason (moved_rows m text T count) h in
-      (ap answered (sym o), z ∙ ap (output (length out)) (sym o))
+  pub moved_refused : {n : ℕ} → n ≡ reason → (reason ≡ 0 → ⊥) → LeavesMoved m text T room count out (Refused n 0) out
+  moved_refused e h = λ s es k reads own all possible.
+      leaves_refused (outcome_is s es k reads own all possible ∙ outcome_refused reason (moved_rows m text T count) h ∙ ap (λ (n : ℕ). refused n 0) (sym e))
 
-  pub writes_all : {out₁ out' new : Bytes} → reason ≡ 0 → new ≡ part made 0 r.at → out₁ ≡ put out 0 new → out' ≡ take r.at out₁ ++ replicate (length out₁ - r.at) 0 → WritesMoved m text T room count out (call.Written r.at) out'
-  writes_all {out₁} h a b z = λ s es k reads own all possible.
+  pub moved_all : {out' new : Bytes} → reason ≡ 0 → new ≡ part made 0 r.at → out' ≡ put out 0 new → LeavesMoved m text T room count out (Written r.at) out'
+  moved_all {out'} h a b = λ s es k reads own all possible.
       let t = moved_rows m text T count in
       let o = outcome_is s es k reads own all possible ∙ outcome_written reason t h in
       let g = not_refused r.full reals room r.at (length out) (sym why ∙ h) in
       let end = end_is space size p g.0 in
-      let full : out₁ ≡ put out 0 t = b ∙ ap (put out 0) (a ∙ made_is space size p g.0) in
-      (ap call.Written end ∙ ap answered (sym o), z ∙ ap (λ (x : Bytes). take r.at x ++ replicate (length x - r.at) 0) full ∙ cleared_behind out t r.at end (omega (arith, g.1)) ∙ ap (output (length out)) (sym o))
+      let full : out' ≡ put out 0 t = b ∙ ap (put out 0) (a ∙ made_is space size p g.0) in
+      let fits : length t ≤ length out = omega (arith, g.1) in
+      subst (λ (x : Outcome). Leaves x out (Written r.at) out') (sym o)
+      (record { says = ap Written end; size = ap length full ∙ length_put out 0 t; text = ap (take (length t)) full ∙ in_front out t fits })
 
 -- ---- the call
 
 module _ (mode : Mode) (m : Direction) (text : Bytes) (table : List ℕ) (doubles : List Float) (out : Bytes) where
-  abbrev made : List Entry → Outcome
-  made es = moved_outcome (min 4096 (length doubles)) (length out) (moved m (statements es))
-
-  pub moves_refused : {out' : Bytes} (n p : ℕ) → fresh.Refused n p ≡ fresh_of text table doubles (read_into mode text table doubles) → out' ≡ filled 0 (length out) [] → Moves mode m text table doubles out (call.Refused n p) out'
-  moves_refused n p e z =
-      let o = refused_as made text table doubles (read_into mode text table doubles) n p e in
-      record { says = ap answered (sym o); output = z ∙ ap (output (length out)) (sym o) }
-
   -- tables that match are those that the records moved are put from
-  pub moves_same : {r : Answer} {out' : Bytes} (room n : ℕ) → room ≡ min 4096 (length doubles) → WritesMoved m text table room n out r out' → fresh.Same n ≡ fresh_of text table doubles (read_into mode text table doubles) → Moves mode m text table doubles out r out'
-  moves_same room n least w e =
+  pub moves_same : {a : Answer} {out' : Bytes} (room n : ℕ) → room ≡ min 4096 (length doubles) → LeavesMoved m text table room n out a out' → fresh.Same n ≡ fresh_of text table doubles (read_into mode text table doubles) → Leaves (moved_by mode m text table doubles (length out)) out a out'
+  moves_same {a = a} {out' = out'} room n least w e =
       let R = settings_for mode (length table) (length doubles) in
-      let x = same_as made text table doubles R (read_into mode text table doubles) n refl e in
-      let h = w R x.entries (length table) x.reads x.own x.count (omega arith) in
-      let o : moved_outcome room (length out) (moved m (statements x.entries)) ≡ checked made text table doubles (read_into mode text table doubles) = ap (λ (k : ℕ). moved_outcome k (length out) (moved m (statements x.entries))) least ∙ sym x.outcome in
-      record { says = h.0 ∙ ap answered o; output = h.1 ∙ ap (output (length out)) o }
+      let x = same_as (λ es. moved_outcome (min 4096 (length doubles)) (length out) (moved m (statements es))) text table doubles R (read_into mode text table doubles) n refl e in
+      let o : moved_outcome room (length out) (moved m (statements x.entries)) ≡ moved_by mode m text table doubles (length out) = ap (λ (k : ℕ). moved_outcome k (length out) (moved m (statements x.entries))) least ∙ sym x.outcome in
+      subst (λ (y : Outcome). Leaves y out a out') o (w R x.entries (length table) x.reads x.own x.count (omega arith))

@@ -10,8 +10,7 @@ use Rattle.scene.specs.Statement.{Statement}
 use Rattle.scene.specs.declared.Mode.{Mode}
 use Rattle.tidying.specs.Tidy.{tidy}
 use Rattle.writer.specs.Answer as written
-use Rattle.writer.specs.Answer.{Outcome, answered, checked}
-use Rattle.writer.specs.declared.Answer.{Answer}
+use Rattle.writer.specs.Answer.{Answer, Outcome, answered, checked}
 
 -- "what a reading of the moved scene at the same sizes would give, 1 or 13, at place 0; then 23": whether the text is too long for a
 -- reading, the reals it has and the room for them, its length and the output's

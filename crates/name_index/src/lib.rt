@@ -15,7 +15,7 @@ use table::{MOST_RECORDS, WIDTH};
 fn count(records: &[u32]) -> usize
     ensures { result ≡ count_in records.now }
 {
-    lexer::least(MOST_RECORDS, records.len() / WIDTH)
+    MOST_RECORDS.min(records.len() / WIDTH)
 }
 
 // Enters record n.
@@ -31,12 +31,9 @@ fn enter(text: &[u8], records: &[u32], index: &mut [u32], n: usize)
 pub fn index_names(text: &[u8], records: &[u32]) -> [u32; ENTRIES]
     ensures { result ≡ index_by (rows text.now records.now) (count_in records.now) }
 {
-    let many = count(records);
     let mut index = [0u32; ENTRIES];
-    let mut n = 0;
-    while n < many {
-        n += 1;
-        enter(text, records, &mut index, n);
+    for n in 0..count(records) {
+        enter(text, records, &mut index, n + 1);
     }
     index
 }
@@ -46,10 +43,8 @@ pub fn names_once(text: &[u8], records: &[u32]) -> bool
     ensures { result ≡ names_once_in text.now records.now }
 {
     let index = index_names(text, records);
-    let many = count(records);
-    let mut n = 0;
-    while n < many {
-        n += 1;
+    for row in 0..count(records) {
+        let n = row + 1;
         let found = index::search(text, records, &index, n, table::name_of(text, records, n));
         if found.number != n {
             return false;

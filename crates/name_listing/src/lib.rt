@@ -21,11 +21,9 @@ fn uses(records: &[u32], d: usize, j: usize) -> bool
 fn first_user(records: &[u32], d: usize, count: usize) -> usize
     ensures { result ≡ first_user records.now d count }
 {
-    let mut j = 0;
-    while j < count {
-        j += 1;
-        if uses(records, d, j) {
-            return j;
+    for j in 0..count {
+        if uses(records, d, j + 1) {
+            return j + 1;
         }
     }
     0
@@ -52,10 +50,8 @@ fn put_laters(
     ensures { Puts out.old c (later_users records.now d first count) result out.new }
 {
     let mut end = c;
-    let mut j = 0;
-    while j < count {
-        j += 1;
-        end = put_later(out, end, records, d, first, j);
+    for j in 0..count {
+        end = put_later(out, end, records, d, first, j + 1);
     }
     end
 }
@@ -88,14 +84,12 @@ fn put_definitions(out: &mut [u8], c: Cursor, records: &[u32], count: usize, fir
 {
     let mut end = c;
     let mut d = first;
-    let mut left = count;
-    while 0 < left {
+    for _done in 0..count {
         if d == 0 {
             return end;
         }
         end = put_definition(out, end, records, count, d);
         d = table::field(records, d, table::NEXT) as usize;
-        left -= 1;
     }
     end
 }

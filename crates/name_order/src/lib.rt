@@ -14,10 +14,8 @@ fn number(order: &mut [u32])
     requires { length order.old ≤ 1024 }
     ensures { Numbered order.new }
 {
-    let mut i = 0;
-    while i < order.len() {
-        order[i] = (i + 1) as u32;
-        i += 1;
+    for (i, entry) in order.iter_mut().enumerate() {
+        *entry = (i + 1) as u32;
     }
 }
 
@@ -58,14 +56,13 @@ fn merge(text: &[u8], records: &[u32], left: &[u32], right: &[u32], out: &mut [u
 {
     let mut i = 0;
     let mut j = 0;
-    while i + j < out.len() {
-        let at = i + j;
+    for entry in out.iter_mut() {
         if right_first(text, records, left, i, right, j) {
-            out[at] = right[j];
+            *entry = right[j];
             j += 1;
             continue;
         }
-        out[at] = left[i];
+        *entry = left[i];
         i += 1;
     }
 }
@@ -77,8 +74,8 @@ fn merge_runs(text: &[u8], records: &[u32], from: &[u32], to: &mut [u32], width:
 {
     let mut at = 0;
     while at < from.len() {
-        let middle = lexer::least(at + width, from.len());
-        let end = lexer::least(middle + width, from.len());
+        let middle = (at + width).min(from.len());
+        let end = (middle + width).min(from.len());
         merge(
             text,
             records,
@@ -110,9 +107,9 @@ pub fn order(text: &[u8], records: &[u32], order: &mut [u32], scratch: &mut [u32
     ensures order_after { order.new ≡ filled 0 (length order.old) (sorted (earlier text.now records.now) (room (length records.now) (length order.old) (length scratch.old))) }
     ensures scratch_after { scratch.new ≡ replicate (length scratch.old) 0 }
 {
-    let whole = lexer::least(MOST_RECORDS, records.len() / WIDTH);
-    let count = lexer::least(whole, lexer::least(order.len(), scratch.len()));
-    table::clear_numbers(order);
+    let whole = MOST_RECORDS.min(records.len() / WIDTH);
+    let count = whole.min(order.len().min(scratch.len()));
+    order.fill(0);
     sort(text, records, &mut order[..count], &mut scratch[..count]);
-    table::clear_numbers(scratch);
+    scratch.fill(0);
 }

@@ -4,8 +4,7 @@ use Rattle.std.specs.Float.{binary64}
 use Rattle.laws.specs.Bytes.{Bytes}
 use Rattle.numeral.specs.Numeral.{coefficient, down, numeral_of, up, value}
 use Rattle.numeral_parts.specs.Parts.{negative}
-use Rattle.reader.specs.Answer.{Reads, read_into}
-use Rattle.reader.specs.declared.Answer.{Answer}
+use Rattle.reader.specs.Answer.{Answer, Reads, read_into}
 use Rattle.rounding.specs.Nearest.{Nearest}
 use Rattle.scene.specs.HouseRules.{zero_real}
 use Rattle.scene.specs.Reading.{Entry, accepted, statements}

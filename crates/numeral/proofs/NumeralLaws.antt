@@ -9,6 +9,7 @@ use native.Mathlib.Omega.{arith}
 use borrow.Author.Tests.{lt-ltb, le-ltb}
 use lib.Dec.{ltb}
 use lib.ListN.{length, take, drop, drop_of_length-le}
+use Rattle.std.specs.Prelude.{Some, None}
 use Rattle.laws.specs.Bytes.{Bytes, byte}
 use Rattle.numeral_parts.proofs.DigitLaws.{digits_few, digits_many, digits_bad, digits_good, short_value}
 use Rattle.numeral_parts.proofs.PartLaws.{mantissa_bad, mantissa_is}
@@ -18,8 +19,9 @@ use Rattle.numeral_parts.specs.Digits.{digits, value_from, value_of}
 use Rattle.numeral.specs.Numeral.{refusal, mantissa, exponent, well_formed, coefficient, number_of, numeral_of}
 use Rattle.numeral.specs.Powered.{powered_by}
 use Rattle.numeral_parts.specs.Parts.{before, behind, has, index_of, is_mark, is_point, is_mantissa, is_exponent, negative, unsigned}
-use Rattle.numeral_parts.specs.Read.{either, mantissa_in, scaled, exponent_in, up, down}
+use Rattle.numeral_parts.specs.Read.{either, mantissa_in, scaled, exponent_in}
 use Rattle.numeral_parts.specs.Saturated.{limit, saturated}
+use Rattle.numeral_parts.specs.declared.Exponent.TheVariants.{Up, Down}
 use Rattle.numeral.specs.Numeral as n
 
 -- ---- counts
@@ -35,10 +37,10 @@ module _ (w : Bytes) where
   pub count_long : 5 < length w → none ≡ count_of w
   count_long h = count_refused (digits_many 1 5 w h)
 
-  pub count_bad : none ≡ saturated 0 w → none ≡ count_of w
+  pub count_bad : None ≡ saturated 0 w → none ≡ count_of w
   count_bad e = count_refused (digits_bad 1 5 w e)
 
-  pub count_good : (length w ≡ 0 → ⊥) → length w ≤ 5 → (n : ℕ) → some n ≡ saturated 0 w → some n ≡ count_of w
+  pub count_good : (length w ≡ 0 → ⊥) → length w ≤ 5 → (n : ℕ) → Some n ≡ saturated 0 w → some n ≡ count_of w
   unfolding count_of
   count_good h l n e = rw (digits_good 1 5 w (omega arith) l n e, (short_value n 5 w l (omega arith) e).0)
 
@@ -73,11 +75,11 @@ module _ (w body : Bytes) (mark : ℕ) (b : body ≡ unsigned w) (m : mark ≡ i
   unfolding has
   has_mark = λ i. ltb (sym at_mark i) (length (sym b i))
 
-  pub numeral_bad : none ≡ mantissa_in (take mark body) → refusal 14 ≡ numeral_of w
+  pub numeral_bad : None ≡ mantissa_in (take mark body) → refusal 14 ≡ numeral_of w
   unfolding numeral_of well_formed
   numeral_bad e = rw (mantissa_bad (mantissa w) (e ∙ ap mantissa_in mantissa_there))
 
-  module _ (c k : ℕ) (e : some (scaled c k) ≡ mantissa_in (take mark body)) where
+  module _ (c k : ℕ) (e : Some (scaled c k) ≡ mantissa_in (take mark body)) where
     facts : (is_mantissa (mantissa w) ≡ true) × (c ≡ min limit (coefficient w)) × (k ≡ length (behind is_point (mantissa w)))
     unfolding coefficient
     facts = mantissa_is (mantissa w) c k (e ∙ ap mantissa_in mantissa_there)
@@ -103,7 +105,7 @@ module _ (w body : Bytes) (mark : ℕ) (b : body ≡ unsigned w) (m : mark ≡ i
         l : ℕ
         l = length (behind is_point (mantissa w))
 
-        go : (t s : Bool) → powered_by (negative w) c k (cond t (some (cond s (down v) (up v))) none) ≡ cond t (number_of (negative w) (coefficient w) (cond s 0 v) (l + cond s v 0)) (refusal 14)
+        go : (t s : Bool) → powered_by (negative w) c k (cond t (Some (cond s (Down v) (Up v))) None) ≡ cond t (number_of (negative w) (coefficient w) (cond s 0 v) (l + cond s v 0)) (refusal 14)
         go true true = same_number 0 (k + v) ∙ ap (λ (x : ℕ). number_of (negative w) (coefficient w) 0 (x + v)) facts.2
         go true false = same_number v k ∙ ap (number_of (negative w) (coefficient w) v) (facts.2 ∙ sym (add-zero l))
         go false s = refl

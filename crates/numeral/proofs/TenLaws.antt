@@ -1,5 +1,5 @@
 -- A coefficient below the limit times or over an exact power of ten is the double nearest to the product or the quotient.
-use mathlib.Core.Bool.{Bool, true, false, cond, and-false, or-true, false≢true}
+use mathlib.Core.Bool.{Bool, true, false, cond, and-false, or-true}
 use mathlib.Core.Path.{◌≡◌, refl, sym, ap, ◌∙◌}
 use Prim.Native.Nat.{ℕ, zero, suc, ◌+◌, ◌-◌, ◌*◌, ◌^◌, ◌≤◌, ◌<◌, min}
 use native.Mathlib.Nat.{one-mul, mul_assoc, zero-mul, zero-lt-suc, mul-pos, pow-suc}
@@ -13,9 +13,10 @@ use lib.IntN.{pos}
 use lib.Pow.{pow-add}
 use Rattle.steps.proofs.DoubleLaws.{mul_val, div_val, neg_round, round_zero}
 use Rattle.laws.proofs.NatLaws.{cut}
+use Rattle.std.specs.Prelude.{Option, Some, None, ok_or}
 use Rattle.numeral.specs.Exactly.{Exactly}
-use Rattle.numeral.specs.Numeral.{value, refusal, in_range, nearest, number_of}
-use Rattle.numeral.specs.declared.ExactValue.{ExactValue}
+use Rattle.numeral.specs.declared.NumeralError.TheVariants.{TooLarge}
+use Rattle.numeral.specs.Numeral.{answer_of, value, refusal, in_range, nearest, number_of}
 use Rattle.numeral_parts.specs.Saturated.{limit}
 
 pub ten_pos : (k : ℕ) → 0 < 10 ^ k
@@ -90,12 +91,10 @@ module _ (s : Bool) (c up down : ℕ) where
     pub number_zero : c ≡ 0 → y ≡ cond s (neg (fin false 0 (pos 0))) (fin false 0 (pos 0)) → value y ≡ number_of s c up down
     number_zero z = signed (no_power z) (fin false 0 (pos 0)) (sym (ap (λ (n : ℕ). nearest false n up down) z ∙ nearest_zero false up down))
 
-  -- an answer with a value, and one without
-  pub exact_value : (y : Float) → value y ≡ number_of s c up down → Exactly s c up down record { good = true; value = y }
-  exact_value y e = record { found = λ _. e; not_found = λ f. absurd (false≢true (sym f)) }
-
-  pub exact_none : (r : ExactValue) → r.good ≡ false → ((c ≡ 0 → ⊥) → refusal 15 ≡ number_of s c up down) → Exactly s c up down r
-  exact_none r f e = record { found = λ g. absurd (false≢true (sym f ∙ g)); not_found = λ _. e }
+  -- where the coefficient is not 0, no value means that it is too large
+  pub exact_answer : (r : Option Float) → Exactly s c up down r → (c ≡ 0 → ⊥) → answer_of (ok_or r TooLarge) ≡ number_of s c up down
+  exact_answer (Some x) e z = e
+  exact_answer None e z = e z
 
 -- a coefficient past the limit is as good as the limit
 pub number_capped : (s : Bool) (c up down : ℕ) → number_of s (min limit c) up down ≡ number_of s c up down

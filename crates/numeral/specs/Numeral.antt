@@ -1,12 +1,12 @@
 -- Numerals, and the double that each stands for.
-use Rattle.std.specs.Prelude.{Bool, not, ◌&&◌, ◌||◌, cond, ◌++◌, ℕ, ◌+◌, ◌*◌, ◌^◌, leb, ltb, eqb, Float, length}
+use Rattle.std.specs.Prelude.{Bool, not, ◌&&◌, ◌||◌, cond, ◌++◌, ℕ, ◌+◌, ◌*◌, ◌^◌, leb, ltb, eqb, Float, length, Result, Ok, Err}
 use Rattle.std.specs.Float.{binary64}
 use Rattle.std.specs.Float.Ieee.{round}
 use Rattle.laws.specs.Bytes.{Bytes}
 use Rattle.numeral_parts.specs.Digits.{value_of}
 use Rattle.numeral_parts.specs.Parts.{before, behind, has, is_exponent, is_mantissa, is_mark, is_point, negative, unsigned}
-use Rattle.numeral.specs.declared.Numeral.{Numeral}
-use Rattle.numeral.specs.declared.Numeral.TheVariants.{Value, Malformed, TooLarge}
+use Rattle.numeral.specs.declared.NumeralError.{NumeralError}
+use Rattle.numeral.specs.declared.NumeralError.TheVariants.{Malformed, TooLarge}
 
 -- what stands before the exponent's mark, and what behind it
 unfoldable pub mantissa : Bytes → Bytes
@@ -56,10 +56,10 @@ unfoldable pub numeral_of : Bytes → Answer
 numeral_of w = cond (well_formed w) (number_of (negative w) (coefficient w) (up w) (down w)) (refusal 14)
 
 -- document 01's number and value for each case of the code's answer
-abbrev pub answer_of : Numeral → Answer
-answer_of (Value x) = value x
-answer_of Malformed = refusal 14
-answer_of TooLarge = refusal 15
+abbrev pub answer_of : Result Float NumeralError → Answer
+answer_of (Ok x) = value x
+answer_of (Err Malformed) = refusal 14
+answer_of (Err TooLarge) = refusal 15
 
 -- 0 where there is a value
 abbrev pub reason : Answer → ℕ

@@ -6,7 +6,7 @@ ghost use Rattle.numeral.specs.Exactly.{Exactly};
 ghost use Rattle.numeral.specs.Numeral.{answer_of, nearest, number_of};
 ghost use Rattle.numeral_parts.specs.Saturated.{limit};
 
-use crate::{ExactValue, Numeral};
+use crate::NumeralError;
 use numeral_parts::LIMIT;
 
 // 10 to the power k, which a double holds exactly. (A constant array would be laid out anew at each call.)
@@ -63,50 +63,48 @@ fn signed(negative: bool, x: f64) -> f64
     if negative { -x } else { x }
 }
 
-// c times 10 to the power up less down, rounded once, where c is below the limit and the power from -22 to 22.
-pub fn exact(negative: bool, c: u64, up: u64, down: u64) -> ExactValue
-    ensures { Exactly negative c up down result }
-{
-    if LIMIT <= c {
-        return inexact();
-    }
-    if down <= up {
-        if 22 < up - down {
-            return inexact();
+// A number as it is written: the coefficient times 10 to the power `up` less `down`, with its sign.
+#[derive(Clone, Copy)]
+pub struct Decimal {
+    pub negative: bool,
+    pub coefficient: u64,
+    pub up: u64,
+    pub down: u64,
+}
+
+impl Decimal {
+    // The number, rounded once, where the coefficient is below the limit and the power from -22 to 22.
+    pub fn exact(self) -> Option<f64>
+        ensures { Exactly self.negative self.coefficient self.up self.down result }
+    {
+        let Decimal {
+            negative,
+            coefficient,
+            up,
+            down,
+        } = self;
+        if LIMIT <= coefficient {
+            return None;
         }
-        return ExactValue {
-            good: true,
-            value: signed(negative, times(c, up - down)),
-        };
+        if down <= up {
+            if 22 < up - down {
+                return None;
+            }
+            return Some(signed(negative, times(coefficient, up - down)));
+        }
+        if 22 < down - up {
+            return None;
+        }
+        Some(signed(negative, over(coefficient, down - up)))
     }
-    if 22 < down - up {
-        return inexact();
-    }
-    ExactValue {
-        good: true,
-        value: signed(negative, over(c, down - up)),
-    }
-}
 
-fn inexact() -> ExactValue
-    ensures { result.good ≡ false }
-{
-    ExactValue {
-        good: false,
-        value: 0.0,
+    // The double nearest to the number.
+    pub fn nearest(self) -> Result<f64, NumeralError>
+        ensures { answer_of result ≡ number_of self.negative self.coefficient self.up self.down }
+    {
+        if self.coefficient == 0 {
+            return Ok(signed(self.negative, 0.0));
+        }
+        self.exact().ok_or(NumeralError::TooLarge)
     }
-}
-
-// The coefficient c times 10 to the power up less down.
-pub fn number(negative: bool, c: u64, up: u64, down: u64) -> Numeral
-    ensures { answer_of result ≡ number_of negative c up down }
-{
-    if c == 0 {
-        return Numeral::Value(signed(negative, 0.0));
-    }
-    let e = exact(negative, c, up, down);
-    if e.good {
-        return Numeral::Value(e.value);
-    }
-    Numeral::TooLarge
 }

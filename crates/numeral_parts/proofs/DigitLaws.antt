@@ -1,7 +1,6 @@
 -- Rows of digits: their bounds, and reading them with numbers past the limit kept at it.
 use mathlib.Core.Bool.{Bool, true, false, cond, ◌&&◌, and-false}
 use mathlib.Core.List.{[], ◌∷◌, ◌++◌}
-use mathlib.Core.Option.{none, some}
 use mathlib.Core.Path.{◌≡◌, refl, sym, ap, ◌∙◌}
 use Prim.Native.Nat.{ℕ, suc, ◌+◌, ◌*◌, ◌-◌, ◌^◌, ◌≤◌, ◌<◌, min}
 use native.Mathlib.Nat.{pow-suc, mul-le-mul_right, pow-le-pow_right, min-eq_right}
@@ -11,6 +10,7 @@ use borrow.Author.Tests.{leb-true, le-leb, lt-leb}
 use lib.Dec.{leb}
 use lib.ListN.{length, drop, get_or, drop_of_length-le}
 use lib.Seq.{drop-cons}
+use Rattle.std.specs.Prelude.{Some, None}
 use Rattle.laws.proofs.BoolLaws.{and_left, and_right}
 use Rattle.laws.proofs.NatLaws.{cut}
 use Rattle.laws.specs.Bytes.{Bytes}
@@ -59,12 +59,12 @@ value_capped v w =
     ap (λ (n : ℕ). min limit (value_from n w)) e ∙ cut (λ (n : ℕ). min limit (value_from n w)) v limit (λ h. omega (arith, value_grows v w, value_grows limit w))
 
 module _ (n : ℕ) (w : Bytes) (i : ℕ) where
-  pub read_end : n ≤ limit → length w ≤ i → some n ≡ saturated n (drop i w)
+  pub read_end : n ≤ limit → length w ≤ i → Some n ≡ saturated n (drop i w)
   unfolding saturated all value_from
-  read_end h l = rw (drop_of_length-le w l) (ap some (sym (min-eq_right h)))
+  read_end h l = rw (drop_of_length-le w l) (ap Some (sym (min-eq_right h)))
 
   module _ (l : i < length w) where
-    pub read_stop : is_digit (get_or w i 0) ≡ false → none ≡ saturated n (drop i w)
+    pub read_stop : is_digit (get_or w i 0) ≡ false → None ≡ saturated n (drop i w)
     unfolding saturated all
     read_stop e = rw (drop-cons w i 0 l, e)
 
@@ -72,30 +72,30 @@ module _ (n : ℕ) (w : Bytes) (i : ℕ) where
     unfolding saturated all value_from
     read_step m h e =
         rw (add-one, drop-cons w i 0 l, e, h)
-        (ap (λ (x : ℕ). cond (all is_digit (drop (suc i) w)) (some x) none) (value_capped (n * 10 + (get_or w i 0 - 48)) (drop (suc i) w)))
+        (ap (λ (x : ℕ). cond (all is_digit (drop (suc i) w)) (Some x) None) (value_capped (n * 10 + (get_or w i 0 - 48)) (drop (suc i) w)))
 
 -- what an answer says of the row
-pub row_bad : (n : ℕ) (w : Bytes) → none ≡ saturated n w → all is_digit w ≡ false
+pub row_bad : (n : ℕ) (w : Bytes) → None ≡ saturated n w → all is_digit w ≡ false
 unfolding saturated
 row_bad n w = go (all is_digit w)
   where
-    go : (b : Bool) → none ≡ cond b (some (min limit (value_from n w))) none → b ≡ false
+    go : (b : Bool) → None ≡ cond b (Some (min limit (value_from n w))) None → b ≡ false
     go true e = cc
     go false e = refl
 
-pub row_good : (n m : ℕ) (w : Bytes) → some m ≡ saturated n w → all is_digit w ≡ true
+pub row_good : (n m : ℕ) (w : Bytes) → Some m ≡ saturated n w → all is_digit w ≡ true
 unfolding saturated
 row_good n m w = go (all is_digit w)
   where
-    go : (b : Bool) → some m ≡ cond b (some (min limit (value_from n w))) none → b ≡ true
+    go : (b : Bool) → Some m ≡ cond b (Some (min limit (value_from n w))) None → b ≡ true
     go true e = refl
     go false e = cc
 
-pub row_value : (n m : ℕ) (w : Bytes) → some m ≡ saturated n w → m ≡ min limit (value_from n w)
+pub row_value : (n m : ℕ) (w : Bytes) → Some m ≡ saturated n w → m ≡ min limit (value_from n w)
 unfolding saturated
 row_value n m w = go (all is_digit w)
   where
-    go : (b : Bool) → some m ≡ cond b (some (min limit (value_from n w))) none → m ≡ min limit (value_from n w)
+    go : (b : Bool) → Some m ≡ cond b (Some (min limit (value_from n w))) None → m ≡ min limit (value_from n w)
     go true e = cc
     go false e = cc
 
@@ -110,11 +110,11 @@ module _ (least most : ℕ) (w : Bytes) where
   unfolding digits
   digits_many h = rw (lt-leb (length w) most h, and-false)
 
-  pub digits_bad : none ≡ saturated 0 w → digits least most w ≡ false
+  pub digits_bad : None ≡ saturated 0 w → digits least most w ≡ false
   unfolding digits
   digits_bad e = rw (row_bad 0 w e, and-false)
 
-  pub digits_good : least ≤ length w → length w ≤ most → (n : ℕ) → some n ≡ saturated 0 w → digits least most w ≡ true
+  pub digits_good : least ≤ length w → length w ≤ most → (n : ℕ) → Some n ≡ saturated 0 w → digits least most w ≡ true
   unfolding digits
   digits_good h l n e = rw (le-leb least (length w) h, le-leb (length w) most l, row_good 0 n w e)
 
@@ -127,7 +127,7 @@ module _ (least most : ℕ) (w : Bytes) where
   digits_most e = leb-true (length w) most (and_right (leb least (length w)) (leb (length w) most) (and_left (leb least (length w) && leb (length w) most) (all is_digit w) e))
 
 -- a row of at most 15 digits is below the limit, and below 10 to the power of its most
-pub short_value : (n most : ℕ) (w : Bytes) → length w ≤ most → most ≤ 15 → some n ≡ saturated 0 w → (n ≡ value_of w) × (n < 10 ^ most)
+pub short_value : (n most : ℕ) (w : Bytes) → length w ≤ most → most ≤ 15 → Some n ≡ saturated 0 w → (n ≡ value_of w) × (n < 10 ^ most)
 short_value n most w h l e =
     let b = value_below 0 w (row_good 0 n w e) in
     let p : 10 ^ length w ≤ 10 ^ most = pow-le-pow_right {n = 10} (omega arith) h in

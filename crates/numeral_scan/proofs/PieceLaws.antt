@@ -1,13 +1,13 @@
 -- The pieces of a text that a scan reads: how they join, and one law for each answer of the code.
-use mathlib.Core.Bool.{Bool, true, false, ◌&&◌, cond}
+use mathlib.Core.Bool.{Bool, true, false, cond}
 use mathlib.Core.List.{[], ◌∷◌, ◌++◌}
 use mathlib.Core.Path.{◌≡◌, refl, sym, ap, ◌∙◌}
 use Prim.Native.Nat.{ℕ, suc, ◌+◌, ◌*◌, ◌-◌, ◌^◌, ◌≤◌, ◌<◌}
 use native.Mathlib.Nat.{add-zero}
 use native.Mathlib.Numerals.{add-one}
 use native.Mathlib.Omega.{arith}
-use borrow.Author.Tests.{ltb-true, leb-true, eqb-true, lt-ltb, le-ltb}
-use lib.Dec.{ltb, leb, eqb}
+use borrow.Author.Tests.{ltb-true, eqb-true, le-leb}
+use lib.Dec.{ltb, eqb}
 use lib.ListN.{length, take, drop, get_or}
 use lib.Seq.{drop-cons, drop-drop, take-add}
 use Rattle.laws.proofs.BoolLaws.{and_left, and_right, or_false_right}
@@ -46,14 +46,6 @@ module _ (text : Bytes) where
   -- ---- one byte
 
   module _ (at b : ℕ) where
-    pub stands_here : at < length text → eqb (get_or text at 0) b ≡ stands text at b
-    unfolding stands
-    stands_here h = rw (lt-ltb at (length text) h)
-
-    pub stands_past : length text ≤ at → false ≡ stands text at b
-    unfolding stands
-    stands_past h = rw (le-ltb at (length text) h)
-
     pub stands_within : stands text at b ≡ true → at < length text
     unfolding stands
     stands_within e = ltb-true at (length text) (and_left (ltb at (length text)) (eqb (get_or text at 0) b) e)
@@ -126,7 +118,7 @@ module _ (text : Bytes) where
     unfolding all value_from
     row_none h = record { piece = piece_none at; digits = rw (part_none at); value_is = rw (part_none at); small = h }
 
-    pub row_step : (i v : ℕ) → RowAt text at n record { end = i; value = v } → i < length text → (d : ℕ) → d ≡ get_or text i 0 → is_digit (get_or text i 0) ≡ true → v < 10 ^ 14 → RowAt text at n record { end = i + 1; value = v * 10 + (d - 48) }
+    pub row_step : (i v : ℕ) → RowAt text at n record { end = i; value = v } → i < length text → (d : ℕ) → d ≡ get_or text i 0 - 48 → is_digit (get_or text i 0) ≡ true → v < 10 ^ 14 → RowAt text at n record { end = i + 1; value = v * 10 + d }
     unfolding all value_from
     row_step i v r h d e g l =
         let p = r.piece in
@@ -156,26 +148,25 @@ module _ (text : Bytes) where
   -- ---- the exponent and the power
 
   module _ (at first down : ℕ) (d : Row) (f : first ≡ cond (stands text at 45) (at + 1) at) (q : RowAt text first 0 d) where
-    pub exponent_read : (s g : Bool) (u k : ℕ) → stands text at 45 ≡ s → u ≡ cond s 0 d.value → k ≡ down + cond s d.value 0 → (leb 1 (d.end - first) && leb (d.end - first) 3) ≡ true → ExponentAt text at down record { good = g; end = d.end; up = u; down = k }
+    pub exponent_read : (s : Bool) (u k : ℕ) → stands text at 45 ≡ s → u ≡ cond s 0 d.value → k ≡ down + cond s d.value 0 → (d.end - first ≡ 0 → ⊥) → d.end - first ≤ 3 → ExponentAt text at down record { end = d.end; up = u; down = k }
     unfolding is_exponent digits
-    exponent_read s g u k m eu ek n =
+    exponent_read s u k m eu ek some few =
         let p = q.piece in
-        let a = leb-true 1 (d.end - first) (and_left (leb 1 (d.end - first)) (leb (d.end - first) 3) n) in
         let l = piece_length p (omega arith) in
         let r = sign_read at first d.end f p (omega arith) (digits_unsigned (part text first (d.end - first)) q.digits) in
         record {
           piece = sign_piece at first d.end f p;
-          form = rw (r.0, l) (both n q.digits);
+          form = rw (r.0, l) (both (both (le-leb 1 (d.end - first) (omega arith)) (le-leb (d.end - first) 3 few)) q.digits);
           up_is = rw (r.0, r.1, m, ← q.value_is) eu;
           down_is = rw (r.0, r.1, m, ← q.value_is) ek;
         }
 
-  pub power_none : (at down : ℕ) → PowerAt text at down record { good = true; end = at; up = 0; down = down }
+  pub power_none : (at down : ℕ) → PowerAt text at down record { end = at; up = 0; down = down }
   unfolding is_power negative unsigned value_from
   power_none at down = record { piece = piece_none at; form = rw (part_none at); up_is = rw (part_none at); down_is = rw (part_none at) (sym (add-zero down)) }
 
-  pub power_read : (at down : ℕ) (r : Power) → stands text at 101 ≡ true → ExponentAt text (at + 1) down r → PowerAt text at down r
+  pub power_read : (at down : ℕ) → stands text at 101 ≡ true → (r : Power) → ExponentAt text (at + 1) down r → PowerAt text at down r
   unfolding is_power
-  power_read at down r s q =
+  power_read at down s r q =
       let w = first_part at 101 s r.end q.piece in
       record { piece = first_piece at 101 s r.end q.piece; form = rw w q.form; up_is = rw w q.up_is; down_is = rw w q.down_is }

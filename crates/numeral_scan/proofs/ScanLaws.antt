@@ -6,15 +6,14 @@ use mathlib.Core.Path.{◌≡◌, sym, ap, ◌∙◌}
 use Prim.Native.Nat.{ℕ, ◌+◌, ◌-◌, ◌≤◌, ◌<◌}
 use native.Mathlib.Nat.{le_trans, lt_of_le_of_lt}
 use native.Mathlib.Omega.{arith}
+use lib.Ieee.{Float}
 use lib.ListN.{length, drop, get_or, length-drop}
 use Rattle.laws.proofs.NatLaws.{le_or_lt}
 use Rattle.laws.specs.Bytes.{Bytes, part}
 use Rattle.laws.specs.Runs.{all}
 use Rattle.lexer.specs.Class.{is_good}
 use Rattle.lexer.specs.Word.{ends_word}
-use Rattle.numeral.specs.Exactly.{Exactly}
-use Rattle.numeral.specs.Numeral.{number_of}
-use Rattle.numeral.specs.declared.ExactValue.{ExactValue}
+use Rattle.numeral.specs.Numeral.{number_of, value}
 use Rattle.numeral_parts.specs.Digits.{value_from, value_of}
 use Rattle.numeral_parts.specs.Parts.{is_sign, negative, unsigned}
 use Rattle.numeral_scan.proofs.PieceLaws.{part_join, piece_join, piece_length, piece_none, piece_stays, piece_within, sign_piece, sign_read}
@@ -81,8 +80,8 @@ module _
     read =
         sign_read text place first p.end f body_piece ahead (ap (λ (xs : Bytes). is_sign (get_or xs 0 0)) body_is ∙ shape_unsigned A F E shape)
 
-    module _ (e : ends_word text p.end ≡ true) (s : Bool) (m : s ≡ stands text place 45) (x : ExactValue) (v : Exactly s number.value p.up p.down x) (g : x.good ≡ true) where
-      pub numeral_read : ReadAt text place record { good = x.good; end = p.end; value = x.value }
+    module _ (e : ends_word text p.end ≡ true) (s : Bool) (m : s ≡ stands text place 45) (x : Float) (v : value x ≡ number_of s number.value p.up p.down) where
+      pub numeral_read : ReadAt text place record { end = p.end; value = x }
       numeral_read =
           let u : unsigned w ≡ (A ++ F) ++ E = read.0 ∙ body_is in
           let c : number.value ≡ value_from (value_of A) (drop 1 F) = b.value_is ∙ ap (λ (k : ℕ). value_from k (drop 1 F)) a.value_is in
@@ -92,5 +91,5 @@ module _
             within = last_inside;
             good_bytes = signed_good w (ap (all is_good) u ∙ shape_good A F E shape);
             ended = e;
-            value_is = shape_numeral A F E shape w u ∙ sym (λ i. number_of ((m ∙ sym read.1) i) (c i) (q.up_is i) (d i)) ∙ sym (v.found g);
+            value_is = shape_numeral A F E shape w u ∙ sym (λ i. number_of ((m ∙ sym read.1) i) (c i) (q.up_is i) (d i)) ∙ sym v;
           }

@@ -1,11 +1,13 @@
-// A numeral read where it stands in a text, in one pass over its bytes. It is right where it says so: what is written in a
+// A numeral read where it stands in a text, in one pass over its bytes. It is right where it finds one: what is written in a
 // rarer way, with a plus sign, an `E` or more digits than fit, is left to the slower reader.
 #![tactic(auto)]
 
-ghost use Rattle.std.specs.Prelude.{◌≡◌, cond, true, false, ◌+◌, ◌-◌, ◌^◌, ◌<◌};
+ghost use Rattle.std.specs.Prelude.{◌≡◌, cond, ◌+◌, ◌^◌, ◌<◌, IfSome};
 ghost use Rattle.numeral_parts.specs.Saturated.{limit};
 ghost use Rattle.numeral_scan.specs.Pieces.{stands, RowAt, FractionAt, ExponentAt, PowerAt};
 ghost use Rattle.numeral_scan.specs.Scan.{ReadAt};
+
+use numeral::Decimal;
 
 // Below this a number may grow by one digit more and stays below the limit.
 const ROOM: u64 = 100_000_000_000_000;
@@ -20,7 +22,6 @@ struct Row {
 // An exponent: the place behind it, and the powers of ten up and down.
 #[derive(Clone, Copy)]
 struct Power {
-    good: bool,
     end: usize,
     up: u64,
     down: u64,
@@ -29,7 +30,6 @@ struct Power {
 // A numeral: the place behind it, and its value.
 #[derive(Clone, Copy)]
 pub struct Scanned {
-    pub good: bool,
     pub end: usize,
     pub value: f64,
 }
@@ -40,39 +40,31 @@ fn row_at(text: &[u8], at: usize, n: u64) -> Row
     ensures { RowAt text.now at n result }
 {
     let mut value = n;
-    let mut i = at;
-    while i < text.len() {
+    for i in at..text.len() {
         let b = text[i];
-        if !numeral_parts::is_digit(b) {
+        if !numeral_parts::is_digit(b) || ROOM <= value {
             return Row { end: i, value };
         }
-        if ROOM <= value {
-            return Row { end: i, value };
-        }
-        value = value * 10 + (numeral_parts::wide(b) - 48);
-        i += 1;
+        value = value * 10 + u64::from(b - b'0');
     }
-    Row { end: i, value }
+    Row {
+        end: at.max(text.len()),
+        value,
+    }
 }
 
 // Whether the byte b stands at a place.
 fn has(text: &[u8], at: usize, b: u8) -> bool
     ensures { result ≡ stands text.now at b }
 {
-    if at < text.len() {
-        return text[at] == b;
-    }
-    false
+    text.get(at) == Some(&b)
 }
 
 // The place behind the byte b, if it stands there.
 fn past(text: &[u8], at: usize, b: u8) -> usize
     ensures { result ≡ cond (stands text.now at b) (at + 1) at }
 {
-    if has(text, at, b) {
-        return at + 1;
-    }
-    at
+    if has(text, at, b) { at + 1 } else { at }
 }
 
 // The whole digits with those behind the point, if there is one.
@@ -87,92 +79,72 @@ fn fraction_at(text: &[u8], whole: Row) -> Row
     whole
 }
 
-// The digits behind the point, of those up to `end`.
-fn after(point: usize, end: usize) -> usize
-    ensures { result ≡ end - point - 1 }
-{
-    if point < end {
-        return end - point - 1;
-    }
-    0
-}
-
 // What stands behind the `e`: a minus or none, and one to three digits. `down` powers are there already.
-fn exponent_at(text: &[u8], at: usize, down: u64) -> Power
+fn exponent_at(text: &[u8], at: usize, down: u64) -> Option<Power>
     requires { down < 2 ^ 63 }
-    ensures { result.good ≡ true → ExponentAt text.now at down result }
+    ensures { IfSome result (ExponentAt text.now at down) }
 {
     let minus = has(text, at, b'-');
     let first = past(text, at, b'-');
     let digits = row_at(text, first, 0);
     let end = digits.end;
     let n = end - first;
-    let good = (1 <= n) & (n <= 3);
+    if n == 0 || 3 < n {
+        return None;
+    }
     if minus {
-        return Power {
-            good,
+        return Some(Power {
             end,
             up: 0,
             down: down + digits.value,
-        };
+        });
     }
-    Power {
-        good,
+    Some(Power {
         end,
         up: digits.value,
         down,
-    }
+    })
 }
 
 // The `e` and the exponent, if there is one.
-fn power_at(text: &[u8], mark: usize, down: u64) -> Power
+fn power_at(text: &[u8], mark: usize, down: u64) -> Option<Power>
     requires { down < 2 ^ 63 }
-    ensures { result.good ≡ true → PowerAt text.now mark down result }
+    ensures { IfSome result (PowerAt text.now mark down) }
 {
     if has(text, mark, b'e') {
         return exponent_at(text, mark + 1, down);
     }
-    Power {
-        good: true,
+    Some(Power {
         end: mark,
         up: 0,
         down,
-    }
-}
-
-fn none() -> Scanned
-    ensures { result.good ≡ false }
-{
-    Scanned {
-        good: false,
-        end: 0,
-        value: 0.0,
-    }
+    })
 }
 
 // The numeral that starts at a place: a minus or none, digits with at most one point, and an exponent or none.
-pub fn numeral_from(text: &[u8], place: usize) -> Scanned
-    ensures { result.good ≡ true → ReadAt text.now place result }
+pub fn numeral_from(text: &[u8], place: usize) -> Option<Scanned>
+    ensures { IfSome result (ReadAt text.now place) }
 {
     let negative = has(text, place, b'-');
     let first = past(text, place, b'-');
     let whole = row_at(text, first, 0);
     let point = whole.end;
     let all = fraction_at(text, whole);
-    let end = all.end;
-    let behind = after(point, end);
+    let behind = all.end.saturating_sub(point).saturating_sub(1);
     if point - first + behind == 0 {
-        return none();
+        return None;
     }
-    let p = power_at(text, end, behind as u64);
-    let last = p.end;
-    if p.good & lexer::ends_word(text, last) {
-        let x = numeral::exact(negative, all.value, p.up, p.down);
-        return Scanned {
-            good: x.good,
-            end: last,
-            value: x.value,
-        };
+    let power = power_at(text, all.end, behind as u64)?;
+    let end = power.end;
+    if !lexer::ends_word(text, end) {
+        return None;
     }
-    none()
+    let number = Decimal {
+        negative,
+        coefficient: all.value,
+        up: power.up,
+        down: power.down,
+    };
+    let value = number.exact()?;
+    Some(Scanned { end, value })
 }

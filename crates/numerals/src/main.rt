@@ -1,50 +1,28 @@
 // Each word of standard input as a numeral: the number of its answer, and its value's bits in hex.
 #![tactic(auto)]
 
-use input::Loaded;
-use numeral::Numeral;
+use lexer::Word;
+use std::io;
 
-// The answer with a value has the number 0.
-fn print_value(rt: &(impl Print + Eprint), bits: u64) -> bool {
-    output::noticed(rt, println!(rt; "0 {bits:016x}"))
-}
-
-fn print_reason(rt: &(impl Print + Eprint), reason: u32) -> bool {
-    output::noticed(rt, println!(rt; "{reason}"))
-}
-
-// A line for the word that stands in a part of the text.
-fn print_numeral(rt: &(impl Print + Eprint), text: &[u8], place: usize, len: usize) -> bool {
-    let n = numeral::numeral_at(text, place, len);
-    if let Numeral::Value(x) = n {
-        return print_value(rt, f64::to_bits(x));
+// A line for a word. The answer with a value has the number 0.
+fn print_numeral(rt: &impl Print, text: &[u8], word: Word) -> io::Result<()> {
+    let n = numeral::numeral_at(text, word.place, word.len);
+    if let Ok(x) = n {
+        let bits = f64::to_bits(x);
+        return println!(rt; "0 {bits:016x}");
     }
-    print_reason(rt, numeral::reason(n))
+    rt.println(numeral::reason(n))
 }
 
-fn print_all(rt: &(impl Print + Eprint), text: &[u8]) {
-    let mut at = 0;
-    loop {
-        let word = lexer::next_word(text, at);
-        if word.len == 0 {
-            return;
-        }
-        if !print_numeral(rt, text, word.place, word.len) {
-            return;
-        }
-        at = word.place + word.len;
-    }
+fn print_numerals(rt: &impl Print, text: &[u8]) -> io::Result<()> {
+    word_reader::new(text).try_for_each(|word| print_numeral(rt, text, word))
 }
 
 fn main(rt: HostRuntime) {
     let mut text = [0u8; table::MOST_BYTES];
-    match input::load_standard(&rt, &mut text) {
-        Loaded::Text(n) => print_all(&rt, lexer::part(&text, 0, n)),
-        Loaded::TooLong => {
-            output::print_refusal(&rt, 1, 0, 0);
-        }
-        Loaded::Unreadable => {
-            output::print(&rt, b"unreadable\n");
-        }
-    }
+    let written = match input::load_standard(&rt, &mut text) {
+        Ok(n) => print_numerals(&rt, &text[..n]),
+        Err(error) => rt.println(error),
+    };
+    output::noticed(&rt, written);
 }

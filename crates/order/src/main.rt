@@ -2,11 +2,11 @@
 // than once, with their definitions and which entries use which.
 #![tactic(auto)]
 
-use input::Loaded;
-use numeral::Count;
-use reader::Answer;
-use scene::Mode;
-use std::rt::{Env, Files};
+use output::ErrorStream;
+use scene_texts::{Program, Scene};
+use std::io;
+use std::rt::{Env, Runtime};
+use table::{MOST_BYTES, NEXT};
 
 // Enough for the line of a pair: three numbers of 20 digits at most, a name of 64, and 40 more.
 const PAIR: usize = 192;
@@ -15,58 +15,31 @@ const PAIR: usize = 192;
 // with a comma, and a name of 64 with 6 more.
 const NAME: usize = 40960;
 
-fn greatest(a: usize, b: usize) -> usize {
-    if a < b { b } else { a }
-}
-
-fn print_pair(
-    rt: &(impl Print + Eprint),
-    text: &[u8],
-    records: &[u32],
-    count: usize,
-    a: usize,
-    b: usize,
-) -> bool {
+fn print_pair(rt: &impl Print, scene: &Scene<'_>, a: usize, b: usize) -> io::Result<()> {
     let mut line = [0u8; PAIR];
-    let order = precedence::mattered(text, records, count, a, b);
-    let first = lexer::least(a, b);
-    let end = order_listing::pair_line(&mut line, text, records, first, greatest(a, b), order);
-    output::print(rt, lexer::part(&line, 0, end.at))
+    let order = precedence::mattered(scene.text, scene.records, scene.primitives, a, b);
+    let end = order_listing::pair_line(
+        &mut line,
+        scene.text,
+        scene.records,
+        a.min(b),
+        a.max(b),
+        order,
+    );
+    rt.write_all(lexer::part(&line, 0, end.at))
 }
 
-// Whether an entry before n gives the name of n.
-fn is_next(records: &[u32], n: usize) -> bool {
-    for m in 0..n {
-        if table::field(records, m, table::NEXT) as usize == n {
-            return true;
-        }
-    }
-    false
+// Whether n is the first of two or more definitions of a name: an entry below gives its name anew, and none above gives it.
+fn is_first(records: &[u32], n: usize) -> bool {
+    table::field(records, n, NEXT) != 0
+        && !(0..n).any(|m| table::field(records, m, NEXT) as usize == n)
 }
 
 // The line of a name that is given more than once, at its first definition.
-fn print_name(
-    rt: &(impl Print + Eprint),
-    text: &[u8],
-    records: &[u32],
-    count: usize,
-    n: usize,
-) -> bool {
-    if (table::field(records, n, table::NEXT) == 0) | is_next(records, n) {
-        return true;
-    }
+fn print_name(rt: &impl Print, scene: &Scene<'_>, n: usize) -> io::Result<()> {
     let mut line = [0u8; NAME];
-    let end = name_listing::name_line(&mut line, text, records, count, n);
-    output::print(rt, lexer::part(&line, 0, end.at))
-}
-
-fn print_names(rt: &(impl Print + Eprint), text: &[u8], records: &[u32], count: usize) -> bool {
-    for n in 1..=count {
-        if !print_name(rt, text, records, count, n) {
-            return false;
-        }
-    }
-    true
+    let end = name_listing::name_line(&mut line, scene.text, scene.records, scene.primitives, n);
+    rt.write_all(lexer::part(&line, 0, end.at))
 }
 
 // What is asked of a text: a pair of numbers, or its names.
@@ -74,93 +47,57 @@ fn print_names(rt: &(impl Print + Eprint), text: &[u8], records: &[u32], count: 
 enum Asked {
     Pair(usize, usize),
     Names,
-    Nothing,
 }
 
-fn answer(
-    rt: &(impl Print + Eprint),
-    text: &[u8],
-    records: &[u32],
-    count: usize,
-    asked: Asked,
-) -> bool {
-    match asked {
-        Asked::Pair(a, b) => print_pair(rt, text, records, count, a, b),
-        Asked::Names => print_names(rt, text, records, count),
-        Asked::Nothing => true,
-    }
-}
+impl Program for Asked {
+    const USAGE: &'static [u8] = b"usage: order [--archive] FILE [NUMBER NUMBER]\n";
 
-fn read(rt: &(impl Print + Eprint), mode: Mode, text: &[u8], asked: Asked) -> bool {
-    let mut records = [0u32; table::MOST_NUMBERS];
-    let mut reals = [0.0f64; table::MOST_REALS];
-    match reader::read_with_own_tables(mode, text, &mut records, &mut reals) {
-        Answer::Accepted(count, _) => answer(rt, text, &records, count, asked),
-        Answer::Refused(reason, place) => {
-            output::print_refusal(rt, reason, place, line_numbers::line_at(text, place))
+    fn answer(&self, rt: &(impl Env + Print + ErrorStream), scene: &Scene<'_>) -> io::Result<()> {
+        match *self {
+            Asked::Pair(a, b) => print_pair(rt, scene, a, b),
+            Asked::Names => (1..=scene.primitives)
+                .filter(|&n| is_first(scene.records, n))
+                .try_for_each(|n| print_name(rt, scene, n)),
         }
-    }
-}
-
-fn read_file(
-    rt: &(impl Env + Files + Print + Eprint),
-    mode: Mode,
-    number: usize,
-    asked: Asked,
-) -> bool {
-    let mut text = [0u8; table::MOST_BYTES];
-    match input::load_argument(rt, number, &mut text) {
-        Loaded::Text(n) => read(rt, mode, lexer::part(&text, 0, n), asked),
-        Loaded::TooLong => output::print_refusal(rt, 1, 0, 1),
-        Loaded::Unreadable => input::print_unreadable(rt, number),
     }
 }
 
 // The number that an argument is. One too long for the buffer is no number.
-fn number_at(rt: &impl Env, argument: usize) -> Count {
+fn number_at(rt: &impl Env, argument: usize) -> Option<usize> {
     let mut word = [0u8; 6];
     let n = input::arg(rt, argument, &mut word);
-    numeral::count_of(lexer::part(&word, 0, n))
-}
-
-fn pair_at(rt: &impl Env, first: usize, second: usize) -> Asked {
-    let Count::Value(a) = number_at(rt, first) else {
-        return Asked::Nothing;
-    };
-    let Count::Value(b) = number_at(rt, second) else {
-        return Asked::Nothing;
-    };
-    Asked::Pair(a as usize, b as usize)
+    numeral::count_of(&word[..n]).map(|count| count as usize)
 }
 
 // Behind the file stand two numbers or nothing.
-fn asked_for(rt: &impl Env) -> Asked {
-    let first = input::first(rt);
-    let count = input::arg_count(rt);
+fn asked_for(rt: &impl Env) -> Option<Asked> {
     if input::has_unknown_option(rt) {
-        return Asked::Nothing;
+        return None;
     }
-    if count == first + 1 {
-        return Asked::Names;
+    let first = input::first(rt);
+    match input::arg_count(rt).saturating_sub(first) {
+        1 => Some(Asked::Names),
+        3 => Some(Asked::Pair(number_at(rt, first + 1)?, number_at(rt, first + 2)?)),
+        _ => None,
     }
-    if count == first + 3 {
-        return pair_at(rt, first + 1, first + 2);
-    }
-    Asked::Nothing
+}
+
+fn answer_file(rt: &(impl Runtime + ErrorStream), asked: Asked) -> io::Result<()> {
+    let number = input::first(rt);
+    let mut text = [0u8; MOST_BYTES];
+    let loaded = input::load_argument(rt, number, &mut text);
+    scene_texts::answer(
+        rt,
+        &asked,
+        input::mode(rt),
+        number,
+        loaded.map(|n| &text[..n]),
+    )
 }
 
 fn main(rt: HostRuntime) {
-    let first = input::first(&rt);
-    let mode = input::mode(&rt);
     match asked_for(&rt) {
-        Asked::Pair(a, b) => {
-            read_file(&rt, mode, first, Asked::Pair(a, b));
-        }
-        Asked::Names => {
-            read_file(&rt, mode, first, Asked::Names);
-        }
-        Asked::Nothing => {
-            output::print(&rt, b"usage: order [--archive] FILE [NUMBER NUMBER]\n");
-        }
-    }
+        Some(asked) => output::noticed(&rt, answer_file(&rt, asked)),
+        None => output::print(&rt, Asked::USAGE),
+    };
 }

@@ -18,7 +18,8 @@ use Rattle.scene.specs.Told.{Told}
 use Rattle.ordered.proofs.SceneLaws.{Known, AllKnown, arranged}
 use Rattle.ordered.proofs.UnionLaws.{union, union_keys, Left, left_alone, left_gone, right_alone, right_gone, both_gone}
 use Rattle.ordered.specs.Compared.{InOrder, named, shown}
-use Rattle.ordered.specs.Lines.{Scene, Line, numbers_of, key_by, content_by, line_of, lines}
+use Rattle.ordered.specs.Lines.{Scene, numbers_of, key_by, content_by, line_of, lines}
+use Rattle.comparison.specs.declared.Line.{Line}
 
 none_found : (x : List Told) → is_found x ≡ false → x ≡ []
 none_found [] e = refl

@@ -1,13 +1,13 @@
 -- One turn by what each test came to, and what it leaves of both orders.
-use mathlib.Core.Bool.{Bool, true, false, cond, ◌&&◌, and-false}
+use mathlib.Core.Bool.{Bool, true, false, cond, ◌&&◌, and_comm}
 use mathlib.Core.List.{List, [], ◌∷◌}
 use mathlib.Core.Logic.{inl, inr}
 use mathlib.Core.Path.{◌≡◌, refl, ap, sym, ◌∙◌}
-use Prim.Native.Nat.{ℕ, zero, suc, ◌+◌, ◌-◌, ◌/◌, ◌<◌, ◌≤◌}
+use Prim.Native.Nat.{ℕ, suc, ◌+◌, ◌/◌, ◌<◌, ◌≤◌}
 use native.Mathlib.Omega.{arith}
 use borrow.Author.Tests.{eq-eqb}
-use lib.ListN.{length, get_or, drop, length-take, length-drop, drop_of_length-le, get_or-eq_default}
-use lib.Seq.{drop-cons, drop-drop, get_or-drop, get_or-take}
+use lib.ListN.{length, get_or, drop, length-take, length-drop, drop_of_length-le}
+use lib.Seq.{drop-cons, drop-drop, get_or-take}
 use Rattle.bits.specs.Bits.{same_reals}
 use Rattle.comparison.specs.declared.Place.TheVariants as on
 use Rattle.comparison.specs.declared.State.TheVariants as is
@@ -19,29 +19,16 @@ use Rattle.laws.proofs.BytesLaws.{same_eq, same_refl}
 use Rattle.laws.specs.Bytes.{Bytes, same}
 use Rattle.scene.specs.Record.{record_in}
 use Rattle.scene.specs.Told.{tells, reals_of}
-use Rattle.ordered.specs.Lines.{Scene, Line, numbers_in, nth_in, numbers_of, key_by, content_by, line_of, lines, handed}
+use Rattle.ordered.specs.Lines.{Scene, numbers_in, numbers_of, key_by, content_by, line_of, lines, handed}
+use Rattle.comparison.specs.declared.Line.{Line}
 use Rattle.ordered.specs.Turns.{order_of, turn_by, turn_of, turn_at}
-use Rattle.ordered.specs.declared.Order.{Order}
-use Rattle.ordered.specs.declared.Turn.{Turn}
-use Rattle.ordered.specs.declared.Next.TheVariants as next
-use Rattle.ordered.specs.declared.Order.TheVariants as goes
-use Rattle.ordered.specs.declared.Turn.TheVariants as turn
-
--- ---- the nth of a number
-
-module _ (o : List ℕ) where
-  pub nth_none : (n : ℕ) → n ≡ 0 → 0 ≡ nth_in o n
-  nth_none n e = ap (nth_in o) (sym e)
-
-  pub nth_past : (n : ℕ) → length o - length o / 2 < n → 0 ≡ nth_in o n
-  nth_past zero h = refl
-  nth_past (suc k) h = sym (get_or-eq_default (drop (length o / 2) o) 0 {n = k} (omega (arith, length-drop (length o / 2) o)))
-
-  pub nth_there : (n x : ℕ) → (n ≡ 0 → ⊥) → x ≡ get_or o (length o / 2 + (n - 1)) 0 → x ≡ nth_in o n
-  nth_there zero x h e = absurd (h refl)
-  nth_there (suc k) x h e =
-      let q : suc k - 1 ≡ k = omega arith in
-      e ∙ ap (λ (i : ℕ). get_or o (length o / 2 + i) 0) q ∙ sym (get_or-drop (length o / 2) o k 0)
+use Rattle.ordered.specs.Turn.{Turn}
+use Rattle.ordered.specs.Turn as turn
+use Rattle.std.specs.Prelude.{Some}
+use Rattle.std.proofs.lemmas.Cmp.{ranked}
+use Rattle.std.specs.Ordering.{MatchOrdering, nat_cmp}
+use Rattle.std.specs.declared.cmp.Ordering.{Ordering}
+use Rattle.std.specs.declared.cmp.Ordering.TheVariants as goes
 
 -- ---- which of two keys goes first
 
@@ -52,11 +39,11 @@ neither second e f = refl
 neither third e f = sym f
 
 module _ (a b : Key) where
-  left_first : before a b ≡ true → goes.LeftFirst ≡ order_of a b
+  left_first : before a b ≡ true → goes.Less ≡ order_of a b
   unfolding order_of
   left_first e = rw e
 
-  right_first : before b a ≡ true → goes.RightFirst ≡ order_of a b
+  right_first : before b a ≡ true → goes.Greater ≡ order_of a b
   unfolding order_of
   right_first e = rw (other (before_one a b) e, e)
     where
@@ -65,7 +52,7 @@ module _ (a b : Key) where
       other second e = refl
       other third e = refl
 
-  together : same_key a b ≡ true → goes.Together ≡ order_of a b
+  together : same_key a b ≡ true → goes.Equal ≡ order_of a b
   unfolding order_of
   together e = rw ((ends (before_one a b) e).0, (ends (before_one a b) e).1)
     where
@@ -78,28 +65,36 @@ module _ (a b : Key) where
     lower_is : lower a.name b.name ≡ s
     lower_is = (λ i. lower (sym e i) (sym f i)) ∙ sym p
 
-    pub left_lower : s ≡ true → goes.LeftFirst ≡ order_of a b
+    pub left_lower : s ≡ true → goes.Less ≡ order_of a b
     left_lower h = left_first (earlier_before a b (inl (lower_is ∙ h)))
 
     module _ (h : s ≡ false) (t : Bool) (q : t ≡ lower u v) where
       higher_is : lower b.name a.name ≡ t
       higher_is = (λ i. lower (sym f i) (sym e i)) ∙ sym q
 
-      pub right_lower : t ≡ true → goes.RightFirst ≡ order_of a b
+      pub right_lower : t ≡ true → goes.Greater ≡ order_of a b
       right_lower k = right_first (earlier_before b a (inl (higher_is ∙ k)))
 
       module _ (k : t ≡ false) (x y : ℕ) (m : x ≡ a.nth) (n : y ≡ b.nth) where
         names : a.name ≡ b.name
         names = same_eq a.name b.name (neither (lower_one a.name b.name) (lower_is ∙ h) (higher_is ∙ k))
 
-        pub left_fewer : x < y → goes.LeftFirst ≡ order_of a b
+        left_fewer : x < y → goes.Less ≡ order_of a b
         left_fewer l = left_first (earlier_before a b (inr (names, (omega arith))))
 
-        pub right_fewer : y < x → goes.RightFirst ≡ order_of a b
+        right_fewer : y < x → goes.Greater ≡ order_of a b
         right_fewer l = right_first (earlier_before b a (inr (sym names, (omega arith))))
 
-        pub as_many : x ≡ y → goes.Together ≡ order_of a b
+        as_many : x ≡ y → goes.Equal ≡ order_of a b
         as_many l = together (rw (eq-eqb a.nth b.nth (sym m ∙ l ∙ n)) (ap (same a.name) (sym names) ∙ same_refl a.name))
+
+        pub by_nth : (o : Ordering) → o ≡ nat_cmp x y → o ≡ order_of a b
+        by_nth o e = go o (ranked x y o e)
+          where
+            go : (o : Ordering) → MatchOrdering o (x < y) (x ≡ y) (y < x) → o ≡ order_of a b
+            go goes.Less l = left_fewer l
+            go goes.Equal l = as_many l
+            go goes.Greater l = right_fewer l
 
 -- ---- one turn
 
@@ -128,14 +123,14 @@ there o i n h e = (λ k. (e ∙ sym (get_or-take (length o / 2) o i 0 h)) k ∷ 
 module _ (l r : Scene) where
   -- of two numbers, by what the tests came to
   module _ (m n : ℕ) where
-    pub turn_left : (x : ℕ) → goes.LeftFirst ≡ order_of (key_by l m) (key_by r n) → x ≡ (key_by l m).nth → turn.Left m x ≡ turn_of l r m n
-    turn_left x e f = ap (turn.Left m) f ∙ ap (λ (o : Order). turn_by l r m n o (same_content (content_by l m) (content_by r n))) e
+    pub turn_left : (x : ℕ) → goes.Less ≡ order_of (key_by l m) (key_by r n) → x ≡ (key_by l m).nth → turn.Left m x ≡ turn_of l r m n
+    turn_left x e f = ap (turn.Left m) f ∙ ap (λ (o : Ordering). turn_by l r m n o (same_content (content_by l m) (content_by r n))) e
 
-    pub turn_right : (x : ℕ) → goes.RightFirst ≡ order_of (key_by l m) (key_by r n) → x ≡ (key_by r n).nth → turn.Right n x ≡ turn_of l r m n
-    turn_right x e f = ap (turn.Right n) f ∙ ap (λ (o : Order). turn_by l r m n o (same_content (content_by l m) (content_by r n))) e
+    pub turn_right : (x : ℕ) → goes.Greater ≡ order_of (key_by l m) (key_by r n) → x ≡ (key_by r n).nth → turn.Right n x ≡ turn_of l r m n
+    turn_right x e f = ap (turn.Right n) f ∙ ap (λ (o : Ordering). turn_by l r m n o (same_content (content_by l m) (content_by r n))) e
 
-    module _ (e : goes.Together ≡ order_of (key_by l m) (key_by r n)) (s : Bool) (f : s ≡ same_content (content_by l m) (content_by r n)) where
-      both : (t : Bool) → s ≡ t → turn_by l r m n goes.Together t ≡ turn_of l r m n
+    module _ (e : goes.Equal ≡ order_of (key_by l m) (key_by r n)) (s : Bool) (f : s ≡ same_content (content_by l m) (content_by r n)) where
+      both : (t : Bool) → s ≡ t → turn_by l r m n goes.Equal t ≡ turn_of l r m n
       both t g = λ i. turn_by l r m n (e i) ((sym g ∙ f) i)
 
       pub turn_same : s ≡ true → turn.Same ≡ turn_of l r m n
@@ -180,7 +175,7 @@ module _ (l r : Scene) where
   turn_lines [] (n ∷ p) = refl
   turn_lines (m ∷ o) (n ∷ p) = go (before (key_by l m) (key_by r n)) (before (key_by r n) (key_by l m)) (same_content (content_by l m) (content_by r n))
     where
-      go : (a b c : Bool) → cond a (line_of l (on.Left m) m is.OnlyLeft ∷ lines l r o (n ∷ p)) (cond b (line_of r (on.Right n) n is.OnlyRight ∷ lines l r (m ∷ o) p) (cond c (lines l r o p) (line_of l (on.Left m) m is.Changed ∷ lines l r o p))) ≡ following (turn_by l r m n (cond a goes.LeftFirst (cond b goes.RightFirst goes.Together)) c) (m ∷ o) (n ∷ p)
+      go : (a b c : Bool) → cond a (line_of l (on.Left m) m is.OnlyLeft ∷ lines l r o (n ∷ p)) (cond b (line_of r (on.Right n) n is.OnlyRight ∷ lines l r (m ∷ o) p) (cond c (lines l r o p) (line_of l (on.Left m) m is.Changed ∷ lines l r o p))) ≡ following (turn_by l r m n (cond a goes.Less (cond b goes.Greater goes.Equal)) c) (m ∷ o) (n ∷ p)
       go true b c = refl
       go false true c = refl
       go false false true = refl
@@ -192,11 +187,11 @@ module _ (l r : Scene) where
   taken_left [] (n ∷ p) = omega arith
   taken_left (m ∷ o) (n ∷ p) = go (order_of (key_by l m) (key_by r n)) (same_content (content_by l m) (content_by r n))
     where
-      go : (x : Order) (s : Bool) → left_taken (turn_by l r m n x s) ≤ suc (length o)
-      go goes.LeftFirst s = omega arith
-      go goes.RightFirst s = omega arith
-      go goes.Together true = omega arith
-      go goes.Together false = omega arith
+      go : (x : Ordering) (s : Bool) → left_taken (turn_by l r m n x s) ≤ suc (length o)
+      go goes.Less s = omega arith
+      go goes.Greater s = omega arith
+      go goes.Equal true = omega arith
+      go goes.Equal false = omega arith
 
   taken_right : (o p : List ℕ) → right_taken (turn_at l r o p) ≤ length p
   taken_right [] [] = omega arith
@@ -204,11 +199,11 @@ module _ (l r : Scene) where
   taken_right [] (n ∷ p) = omega arith
   taken_right (m ∷ o) (n ∷ p) = go (order_of (key_by l m) (key_by r n)) (same_content (content_by l m) (content_by r n))
     where
-      go : (x : Order) (s : Bool) → right_taken (turn_by l r m n x s) ≤ suc (length p)
-      go goes.LeftFirst s = omega arith
-      go goes.RightFirst s = omega arith
-      go goes.Together true = omega arith
-      go goes.Together false = omega arith
+      go : (x : Ordering) (s : Bool) → right_taken (turn_by l r m n x s) ≤ suc (length p)
+      go goes.Less s = omega arith
+      go goes.Greater s = omega arith
+      go goes.Equal true = omega arith
+      go goes.Equal false = omega arith
 
   module _ (i j : ℕ) (t : Turn) (e : t ≡ turn_here i j) where
     abbrev lines_here : List Line
@@ -233,13 +228,13 @@ module _ (l r : Scene) where
     pub next_end : turn.End ≡ turn_here i j → [] ≡ lines l r on_left on_right
     next_end e = sym (follows i j turn.End e)
 
-    pub next_left : (m x : ℕ) → turn.Left m x ≡ turn_here i j → handed l r (next.Line (record { left = i + 1; right = j }) (on.Left m) x is.OnlyLeft) ≡ lines l r on_left on_right
+    pub next_left : (m x : ℕ) → turn.Left m x ≡ turn_here i j → handed l r (Some (record { cursors = record { left = i + 1; right = j }; line = record { place = on.Left m; nth = x; state = is.OnlyLeft } })) ≡ lines l r on_left on_right
     next_left m x e = (λ k. record { place = on.Left m; nth = x; state = is.OnlyLeft } ∷ lines l r (sym (drop-drop 1 i (numbers_of l)) k) on_right) ∙ sym (follows i j (turn.Left m x) e)
 
-    pub next_right : (n x : ℕ) → turn.Right n x ≡ turn_here i j → handed l r (next.Line (record { left = i; right = j + 1 }) (on.Right n) x is.OnlyRight) ≡ lines l r on_left on_right
+    pub next_right : (n x : ℕ) → turn.Right n x ≡ turn_here i j → handed l r (Some (record { cursors = record { left = i; right = j + 1 }; line = record { place = on.Right n; nth = x; state = is.OnlyRight } })) ≡ lines l r on_left on_right
     next_right n x e = (λ k. record { place = on.Right n; nth = x; state = is.OnlyRight } ∷ lines l r on_left (sym (drop-drop 1 j (numbers_of r)) k)) ∙ sym (follows i j (turn.Right n x) e)
 
-    pub next_changed : (m x : ℕ) → turn.Changed m x ≡ turn_here i j → handed l r (next.Line (record { left = i + 1; right = j + 1 }) (on.Left m) x is.Changed) ≡ lines l r on_left on_right
+    pub next_changed : (m x : ℕ) → turn.Changed m x ≡ turn_here i j → handed l r (Some (record { cursors = record { left = i + 1; right = j + 1 }; line = record { place = on.Left m; nth = x; state = is.Changed } })) ≡ lines l r on_left on_right
     next_changed m x e = (λ k. record { place = on.Left m; nth = x; state = is.Changed } ∷ lines l r (sym (drop-drop 1 i (numbers_of l)) k) (sym (drop-drop 1 j (numbers_of r)) k)) ∙ sym (follows i j (turn.Changed m x) e)
 
     pub next_same : turn.Same ≡ turn_here i j → lines l r (drop (i + 1) (numbers_of l)) (drop (j + 1) (numbers_of r)) ≡ lines l r on_left on_right
@@ -259,17 +254,9 @@ module _ (l r : Scene) where
     unfolding same_content tells
     tests = refl
 
-    module _ (x : Bool) (e : x ≡ same_reals (reals_of l.reals (record_in l.records m)) (reals_of r.reals (record_in r.records n))) where
-      pub reals_differ : x ≡ false → false ≡ alike
-      reals_differ h = sym (tests ∙ rw (sym e ∙ h, and-false))
-
-      module _ (h : x ≡ true) (y : Bool) (f : y ≡ same_but_links l.text (record_in l.records m) r.text (record_in r.records n)) where
-        pub rest_differs : y ≡ false → false ≡ alike
-        rest_differs k = sym (tests ∙ rw (sym f ∙ k))
-
-        module _ (k : y ≡ true) (z : Bool) (g : z ≡ linked (record_in l.records m).target (record_in r.records n).target) where
-          pub targets_differ : z ≡ false → false ≡ alike
-          targets_differ o = sym (tests ∙ rw (sym f ∙ k, sym e ∙ h, sym g ∙ o))
-
-          pub all_agree : z ≡ true → (w : Bool) → w ≡ linked (record_in l.records m).modifier (record_in r.records n).modifier → w ≡ alike
-          all_agree o w d = d ∙ sym (tests ∙ rw (sym f ∙ k, sym e ∙ h, sym g ∙ o))
+    -- in the order of the code
+    pub all_tests : (x y w : Bool) → x ≡ (same_reals (reals_of l.reals (record_in l.records m)) (reals_of r.reals (record_in r.records n)) && same_but_links l.text (record_in l.records m) r.text (record_in r.records n)) → y ≡ (x && linked (record_in l.records m).target (record_in r.records n).target) → w ≡ (y && linked (record_in l.records m).modifier (record_in r.records n).modifier) → w ≡ alike
+    all_tests x y w e f g =
+        g
+        ∙ ap (λ (b : Bool). b && linked (record_in l.records m).modifier (record_in r.records n).modifier) (f ∙ ap (λ (b : Bool). b && linked (record_in l.records m).target (record_in r.records n).target) (e ∙ and_comm (same_reals (reals_of l.reals (record_in l.records m)) (reals_of r.reals (record_in r.records n))) (same_but_links l.text (record_in l.records m) r.text (record_in r.records n))))
+        ∙ sym tests

@@ -7,7 +7,8 @@ use Rattle.comparison.specs.declared.State.TheVariants as is
 use Rattle.ranks.specs.Rank.{order_table}
 use Rattle.scene.specs.Record.{width}
 use Rattle.scene.specs.Told.{Told}
-use Rattle.ordered.specs.Lines.{Scene, Line}
+use Rattle.ordered.specs.Lines.{Scene}
+use Rattle.comparison.specs.declared.Line.{Line}
 
 -- how many records a scene has
 abbrev pub count_of : Scene → ℕ

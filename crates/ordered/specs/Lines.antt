@@ -1,6 +1,7 @@
 -- Two scenes compared along an order of each: what the orders hold is taken as it is.
-use Rattle.std.specs.Prelude.{cond, List, [], ◌∷◌, ℕ, ◌/◌, Float, length, take, drop}
+use Rattle.std.specs.Prelude.{cond, List, [], ◌∷◌, ℕ, ◌/◌, Float, length, take, drop, Option, Some, None}
 use Rattle.content.specs.Content.{Content, content_with, same_content}
+use Rattle.comparison.specs.declared.Line.{Line}
 use Rattle.comparison.specs.declared.Place.{Place}
 use Rattle.comparison.specs.declared.State.{State}
 use Rattle.comparison.specs.declared.Place.TheVariants as on
@@ -12,8 +13,7 @@ use Rattle.ranks.specs.Rank.{entry_of}
 use Rattle.scene.specs.Record.{record_in}
 use Rattle.scene.specs.Told.{tells}
 use Rattle.ordered.specs.declared.Cursors.{Cursors}
-use Rattle.ordered.specs.declared.Next.{Next}
-use Rattle.ordered.specs.declared.Next.TheVariants as next
+use Rattle.ordered.specs.declared.NextLine.{NextLine}
 
 -- ---- a scene and its order
 
@@ -50,13 +50,7 @@ content_by s n = content_with (key_by s) (tells s.text s.reals (record_in s.reco
 
 -- ---- the lines
 
--- a line: a primitive by its scene and number, its nth, and its state
-pub record Line : Type 0 where
-  pub place : Place
-  pub nth : ℕ
-  pub state : State
-
--- the line of a scene's number
+-- the line of a scene's number: a primitive by its scene and number, its nth, and its state
 abbrev pub line_of : Scene → Place → (n : ℕ) → State → Line
 line_of s p n x = record { place = p; nth = (key_by s n).nth; state = x }
 
@@ -77,6 +71,6 @@ module _ (l r : Scene) where
   lines_from c = lines (drop c.left (numbers_of l)) (drop c.right (numbers_of r))
 
   -- what an answer hands out: a line, and those from its cursors on
-  abbrev pub handed : Next → List Line
-  handed next.End = []
-  handed (next.Line c p n s) = record { place = p; nth = n; state = s } ∷ lines_from c
+  abbrev pub handed : Option NextLine → List Line
+  handed None = []
+  handed (Some x) = x.line ∷ lines_from x.cursors

@@ -3,21 +3,21 @@ use Rattle.std.specs.Prelude.{Bool, cond, List, [], ◌∷◌, ℕ}
 use Rattle.content.specs.Content.{same_content}
 use Rattle.keys.specs.Key.{Key, before}
 use Rattle.ordered.specs.Lines.{Scene, key_by, content_by}
-use Rattle.ordered.specs.declared.Order.{Order}
-use Rattle.ordered.specs.declared.Turn.{Turn}
-use Rattle.ordered.specs.declared.Order.TheVariants as goes
-use Rattle.ordered.specs.declared.Turn.TheVariants as turn
+use Rattle.ordered.specs.Turn.{Turn}
+use Rattle.ordered.specs.Turn as turn
+use Rattle.std.specs.declared.cmp.Ordering.{Ordering}
+use Rattle.std.specs.declared.cmp.Ordering.TheVariants as goes
 
--- which of two keys goes first
-unfoldable pub order_of : (left right : Key) → Order
-order_of a b = cond (before a b) goes.LeftFirst (cond (before b a) goes.RightFirst goes.Together)
+-- which of two keys goes first: the less one
+unfoldable pub order_of : (left right : Key) → Ordering
+order_of a b = cond (before a b) goes.Less (cond (before b a) goes.Greater goes.Equal)
 
 module _ (l r : Scene) where
   -- by which goes first, and by whether their content is the same
-  abbrev pub turn_by : (m n : ℕ) → Order → (same : Bool) → Turn
-  turn_by m n goes.LeftFirst s = turn.Left m (key_by l m).nth
-  turn_by m n goes.RightFirst s = turn.Right n (key_by r n).nth
-  turn_by m n goes.Together s = cond s turn.Same (turn.Changed m (key_by l m).nth)
+  abbrev pub turn_by : (m n : ℕ) → Ordering → (same : Bool) → Turn
+  turn_by m n goes.Less s = turn.Left m (key_by l m).nth
+  turn_by m n goes.Greater s = turn.Right n (key_by r n).nth
+  turn_by m n goes.Equal s = cond s turn.Same (turn.Changed m (key_by l m).nth)
 
   -- of two numbers
   abbrev pub turn_of : (m n : ℕ) → Turn

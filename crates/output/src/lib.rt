@@ -1,11 +1,11 @@
-// What programs print. A function that prints to standard output answers whether all of it was written: a write that fails is
-// said on standard error, and a caller prints nothing after it.
+// What programs print. A function that prints answers what its writes did, so that a caller stops at the first write that fails;
+// `noticed` says on standard error why one did.
 #![tactic(auto)]
 
-ghost use Rattle.std.specs.Prelude.{◌≡◌, is_ok};
+ghost use Rattle.std.specs.Prelude.{◌≡◌, None, is_ok};
 
-use std::io;
 use std::io::{Cursor, Stderr, Write};
+use std::{fmt, io};
 
 // Standard error as a stream of bytes, which need not be text: a file's name may be none.
 pub trait ErrorStream {
@@ -31,10 +31,9 @@ fn say(rt: &impl Eprint, error: io::Error) {
     let _ = write!(text, "{error}");
     let bytes = text.into_inner();
     let all = str::from_utf8(&bytes).unwrap_or("").trim_end_matches('\0');
-    let words = match all.split_once(" (os error ") {
-        Some((words, _)) => words,
-        None => all,
-    };
+    let words = all
+        .split_once(" (os error ")
+        .map_or(all, |(words, _)| words);
     let _ = eprintln!(rt; "standard output: {words}");
 }
 
@@ -55,26 +54,44 @@ pub fn print(rt: &(impl Print + Eprint), text: &[u8]) -> bool {
     noticed(rt, rt.write_all(text))
 }
 
-// Line 0 stands for a refusal that has no place in a text.
-fn write_line(to: &impl Print, line: usize) -> io::Result<()> {
-    if line == 0 {
-        return Ok(());
+// A refusal as programs print it: the reason's number, the place, and the place's line where it has one in a text.
+#[derive(Clone, Copy, PartialEq, Eq, Debug)]
+pub struct Refused {
+    pub reason: u32,
+    pub place: usize,
+    pub line: Option<usize>,
+}
+
+impl Refused {
+    pub fn without_line(reason: u32, place: usize) -> Refused
+        ensures { result ≡ record { reason = reason; place = place; line = None } }
+    {
+        Refused {
+            reason,
+            place,
+            line: None,
+        }
     }
-    print!(to; " line={line}")
 }
 
-fn write_refusal(to: &impl Print, reason: u32, place: usize, line: usize) -> io::Result<()> {
-    print!(to; "refused={reason} place={place}")?;
-    write_line(to, line)?;
-    print!(to; "\n")
+impl fmt::Display for Refused {
+    fn fmt<W: fmt::Write>(&self, f: &mut fmt::Formatter<W>) -> fmt::Result {
+        let reason = self.reason;
+        let place = self.place;
+        write!(f, "refused={reason} place={place}")?;
+        match self.line {
+            Some(line) => write!(f, " line={line}"),
+            None => Ok(()),
+        }
+    }
 }
 
-// The line of a text that is refused, with the line of its place.
-pub fn print_refusal(rt: &(impl Print + Eprint), reason: u32, place: usize, line: usize) -> bool {
-    noticed(rt, write_refusal(rt, reason, place, line))
+// The line of a refusal.
+pub fn print_refusal(rt: &impl Print, refused: Refused) -> io::Result<()> {
+    rt.println(refused)
 }
 
 // The same line on standard error.
-pub fn say_refusal(rt: &impl ErrorStream, reason: u32, place: usize, line: usize) {
-    let _ = write_refusal(&rt.error_stream(), reason, place, line);
+pub fn say_refusal(rt: &impl ErrorStream, refused: Refused) {
+    let _ = rt.error_stream().println(refused);
 }

@@ -12,10 +12,9 @@ use Rattle.scene.specs.HouseRules.{zero_real}
 use Rattle.scene.specs.Reading.{Reading, accepted, refused}
 use Rattle.scene.specs.Record.{real_image, record_image}
 use Rattle.scene.specs.declared.Mode.{Mode}
-use Rattle.pair.specs.Both.{ReadsBoth, beside, both_answer}
-use Rattle.pair.specs.declared.Both.TheVariants.{Read, Refused}
+use Rattle.pair.specs.Both.{Read, ReadsBoth, Refused, beside, both_answer}
 use Rattle.pair.specs.declared.Side.TheVariants as on
-use Rattle.reader.specs.declared.Answer.TheVariants as reader
+use Rattle.reader.specs.Answer as reader
 
 -- a reading beside a refused one leaves zeros
 beside_records : (text : Bytes) (k n p : ℕ) (y : Reading) → replicate k 0 ≡ record_image text k (beside y (refused n p))

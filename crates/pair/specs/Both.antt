@@ -1,14 +1,25 @@
 -- "Both texts are read afresh. Refusals: the reader's own, left scene first"; one "zeroes the tables of both".
-use Rattle.std.specs.Prelude.{List, [], ◌∷◌, ◌≡◌, ℕ, Float, length}
+use Rattle.std.specs.Prelude.{List, [], ◌∷◌, ◌≡◌, ℕ, Float, length, Result, Ok, Err}
 use Rattle.laws.specs.Bytes.{Bytes}
 use Rattle.reader.specs.Answer.{read_into}
+use Rattle.scene.specs.Reason.{reason_number}
 use Rattle.scene.specs.Reading.{Reading, refused, accepted}
 use Rattle.scene.specs.Record.{record_image, real_image, real_table}
 use Rattle.scene.specs.declared.Mode.{Mode}
-use Rattle.pair.specs.declared.Both.{Both}
-use Rattle.pair.specs.declared.Both.TheVariants.{Read, Refused}
+use Rattle.pair.specs.declared.BothCounts.{BothCounts}
 use Rattle.pair.specs.declared.Side.{Side}
 use Rattle.pair.specs.declared.Side.TheVariants as on
+use Rattle.pair.specs.declared.SideRefusal.{SideRefusal}
+
+-- the counts of primitives and reals, left then right; or the scene refused, with the number of the reader's reason and the place
+pub data Both : Type 0 where
+  Read : (left_primitives left_reals right_primitives right_reals : ℕ) → Both
+  Refused : Side → (reason place : ℕ) → Both
+
+-- what the code answers
+abbrev pub both_of : Result BothCounts SideRefusal → Both
+both_of (Ok c) = Read c.left.primitives c.left.reals c.right.primitives c.right.reals
+both_of (Err r) = Refused r.side (reason_number r.refusal.reason) r.refusal.place
 
 -- document 01's number of each answer: "the reader's own", 0 where both are read
 abbrev pub reason_of : Both → ℕ

@@ -1,11 +1,12 @@
 -- The two bracketed factors of a pane of glass: how much goes through, and how much comes back. "from FTE, FTM and Ct, each 0 to 1,
 -- squares first, then left to right"
-use Rattle.std.specs.Prelude.{Bool, false, not, cond, ◌&&◌, ℕ, Float, pos}
+use Rattle.std.specs.Prelude.{Bool, false, not, cond, ◌&&◌, ℕ, Float, pos, Result, Ok, Err}
 use Rattle.std.specs.Float.{fin}
 use Rattle.std.specs.Float.Ieee.{le}
 use Rattle.std.specs.Float.Ieee.Scale.{finite}
 use Rattle.pane.specs.declared.Interreflection.{Interreflection}
-use Rattle.pane.specs.declared.Interreflection.TheVariants.{Both, Refused}
+use Rattle.scene.specs.Reason.{reason_number}
+use Rattle.scene.specs.declared.Reason.{Reason}
 use Rattle.steps.specs.Step.{◌⊕◌, ◌⊖◌, ◌⊗◌, ◌⊘◌, +0, +1, half}
 
 -- the number 2 of the formulas
@@ -35,9 +36,10 @@ pub data Outcome : Type 0 where
   factors : (through back : Float) → Outcome
   refused : ℕ → Outcome
 
-abbrev pub outcome_of : Interreflection → Outcome
-outcome_of (Both t b) = factors t b
-outcome_of (Refused n) = refused n
+-- the code's answer
+abbrev pub outcome_of : Result Interreflection Reason → Outcome
+outcome_of (Ok f) = factors f.through f.back
+outcome_of (Err r) = refused (reason_number r)
 
 -- "each 0 to 1"
 unfoldable pub is_fraction : Float → Bool

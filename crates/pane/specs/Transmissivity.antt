@@ -1,11 +1,11 @@
 -- "003's transmissivity `(sqrt(.8402528435+.0072522239*Tn*Tn)-.9166530661)/.0036261119/Tn` for Tn above 0 and at most 1".
-use Rattle.std.specs.Prelude.{false, not, cond, ◌&&◌, ℕ, Float}
+use Rattle.std.specs.Prelude.{false, not, cond, ◌&&◌, ℕ, Float, Result, Ok, Err}
 use Rattle.std.specs.Float.{binary64}
 use Rattle.std.specs.Float.Ieee.{le, lt, round}
 use Rattle.std.specs.Float.Ieee.Scale.{finite}
-use Rattle.pane.specs.declared.Transmitted.{Transmitted}
-use Rattle.pane.specs.declared.Transmitted.TheVariants.{Refused, Transmissivity}
 use Rattle.root.specs.Root.{root_of}
+use Rattle.scene.specs.Reason.{reason_number}
+use Rattle.scene.specs.declared.Reason.{Reason}
 use Rattle.steps.specs.Step.{step, ◌⊕◌, ◌⊖◌, ◌⊗◌, ◌⊘◌, +0, +1}
 
 -- ---- the four constants: the doubles nearest to the written numerals
@@ -34,9 +34,10 @@ pub data Outcome : Type 0 where
   transmissivity : (tn : Float) → Outcome
   refused : ℕ → Outcome
 
-abbrev pub outcome_of : Transmitted → Outcome
-outcome_of (Transmissivity tn) = transmissivity tn
-outcome_of (Refused n) = refused n
+-- the code's answer
+abbrev pub outcome_of : Result Float Reason → Outcome
+outcome_of (Ok tn) = transmissivity tn
+outcome_of (Err r) = refused (reason_number r)
 
 -- "with 01's root for sqrt"; "Codes 20 and 21 as in 01"
 unfoldable pub transmissivity_of : (Tn : Float) → Outcome

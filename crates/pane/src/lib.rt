@@ -8,20 +8,14 @@ ghost use Rattle.pane.specs.Transmissivity as transmitted;
 ghost use Rattle.pane.specs.Transmissivity.{from_root, transmissivity_of, under_root};
 
 use root::root;
+use scene::Reason;
 use steps::{is_finite, step};
 
-// The factors of what goes through and of what comes back; or a refusal's number.
+// The factors of what goes through and of what comes back.
 #[derive(Clone, Copy)]
-pub enum Interreflection {
-    Both(f64, f64),
-    Refused(u32),
-}
-
-// A transmissivity, or a refusal's number.
-#[derive(Clone, Copy)]
-pub enum Transmitted {
-    Transmissivity(f64),
-    Refused(u32),
+pub struct Interreflection {
+    pub through: f64,
+    pub back: f64,
 }
 
 fn is_fraction(x: f64) -> bool
@@ -53,22 +47,22 @@ fn back_part(f: f64, c: f64) -> f64
 }
 
 // FTE, FTM and Ct, the factors' order of steps as in 002.
-pub fn factors(te: f64, tm: f64, ct: f64) -> Interreflection
+pub fn factors(te: f64, tm: f64, ct: f64) -> Result<Interreflection, Reason>
     ensures { factors.outcome_of result ≡ factors_of te tm ct }
 {
     if !(is_finite(te) & is_finite(tm) & is_finite(ct)) {
-        return Interreflection::Refused(20);
+        return Err(Reason::NotFinite);
     }
     if !(is_fraction(te) & is_fraction(tm) & is_fraction(ct)) {
-        return Interreflection::Refused(21);
+        return Err(Reason::OutOfRange);
     }
     let c = step(ct * ct);
     let through = step(through_part(te, c) + through_part(tm, c));
     let back = step(back_part(te, c) + back_part(tm, c));
     if !(is_finite(through) & is_finite(back)) {
-        return Interreflection::Refused(20);
+        return Err(Reason::NotFinite);
     }
-    Interreflection::Both(through, back)
+    Ok(Interreflection { through, back })
 }
 
 fn under_root(t: f64) -> f64
@@ -85,18 +79,18 @@ fn from_root(s: f64, t: f64) -> f64
 }
 
 // The transmissivity of a transmittance.
-pub fn transmissivity(t: f64) -> Transmitted
+pub fn transmissivity(t: f64) -> Result<f64, Reason>
     ensures { transmitted.outcome_of result ≡ transmissivity_of t }
 {
     if !is_finite(t) {
-        return Transmitted::Refused(20);
+        return Err(Reason::NotFinite);
     }
     if !((0.0 < t) & (t <= 1.0)) {
-        return Transmitted::Refused(21);
+        return Err(Reason::OutOfRange);
     }
     let tn = from_root(step(root(under_root(t))), t);
     if !is_finite(tn) {
-        return Transmitted::Refused(20);
+        return Err(Reason::NotFinite);
     }
-    Transmitted::Transmissivity(tn)
+    Ok(tn)
 }

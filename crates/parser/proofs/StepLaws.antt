@@ -3,14 +3,17 @@ use mathlib.Core.Bool.{Bool, cond, false, true}
 use mathlib.Core.List.{List}
 use mathlib.Core.Path.{◌≡◌, ap, refl, subst, sym, ◌∙◌}
 use Prim.Native.Nat.{ℕ, ◌+◌, ◌≤◌}
+use native.Mathlib.Omega.{arith}
 use borrow.Author.Tests.{eq-eqb, ne_eqb}
 use lib.Dec.{eqb}
 use lib.Ieee.{Float}
 use lib.ListN.{get_or, length}
 use Rattle.laws.specs.Bytes.{Bytes, part}
 use Rattle.lexer.proofs.WordLaws.{end_most}
-use Rattle.lexer.specs.Word.{checked_at, word_at, word_fault}
-use Rattle.lexer.specs.declared.Checked.{Checked}
+use Rattle.lexer.specs.Fault.{number_of}
+use Rattle.lexer.specs.Word.{Checked, checked_at, word_at, word_fault}
+use Rattle.lexer.specs.declared.WordFault.{WordFault}
+use Rattle.lexer.specs.declared.WordFault.TheVariants.{BadByte, TooLong}
 use Rattle.lexer.specs.declared.Word.{Word}
 use Rattle.context.specs.Seen.{seen_in}
 use Rattle.parser.specs.Steps.{Scanned, end_of, next_step, opened_step, standing, step_of, word_of, word_step}
@@ -20,13 +23,18 @@ use Rattle.statement.specs.declared.Opening.{Opening}
 use Rattle.statement.specs.declared.Phase.{Phase}
 use Rattle.statement.specs.declared.Seen.{Seen}
 use Rattle.statement.specs.declared.State.{State}
-use Rattle.statement.specs.declared.Step.{Step}
+use Rattle.statement.specs.Step.{Step}
 use Rattle.statement.specs.declared.Opening.TheVariants as opening
-use Rattle.statement.specs.declared.Step.TheVariants as to
+use Rattle.statement.specs.Step as to
 
 -- the step of the phase that the state is in
 pub in_phase : (w : Bytes) (room : Settings) (s : State) (v : Seen) {p : Phase} {r : Step} → s.phase ≡ p → r ≡ step_of p w room s v → r ≡ step_of s.phase w room s v
 in_phase w room s v h e = e ∙ sym (ap (λ p. step_of p w room s v) h)
+
+-- a fault's number is not 0, which is for none
+pub some_fault : (f : WordFault) → number_of f ≡ 0 → ⊥
+some_fault BadByte e = omega arith
+some_fault TooLong e = omega arith
 
 -- a word with the bytes b and the fault f
 module _ (text : Bytes) (table : List ℕ) (reals : List Float) (x : List ℕ) (room : Settings) (s : State) (w : Word) (b : Bytes) (f : ℕ) (p : b ≡ part text w.place w.len) (e : f ≡ word_fault b) where

@@ -4,8 +4,7 @@ use Rattle.arguments.specs.Steps.{integer_count_step, real_count_step, real_step
 use Rattle.laws.specs.Bytes.{Bytes, part}
 use Rattle.laws.specs.Runs.{past}
 use Rattle.lexer.specs.Class.{is_in_line}
-use Rattle.lexer.specs.Word.{word_at, word_fault}
-use Rattle.lexer.specs.declared.Checked.{Checked}
+use Rattle.lexer.specs.Word.{Checked, word_at, word_fault}
 use Rattle.lexer.specs.declared.Word.{Word}
 use Rattle.context.specs.Seen.{seen_in}
 use Rattle.scene.specs.declared.Settings.{Settings}
@@ -15,10 +14,10 @@ use Rattle.statement.specs.declared.Opening.{Opening}
 use Rattle.statement.specs.declared.Phase.{Phase}
 use Rattle.statement.specs.declared.Seen.{Seen}
 use Rattle.statement.specs.declared.State.{State}
-use Rattle.statement.specs.declared.Step.{Step}
+use Rattle.statement.specs.Step.{Step}
 use Rattle.statement.specs.declared.Opening.TheVariants as opening
 use Rattle.statement.specs.declared.Phase.TheVariants as is
-use Rattle.statement.specs.declared.Step.TheVariants as to
+use Rattle.statement.specs.Step as to
 
 -- what the text's end comes to: "5 text ends inside a statement", at the text's length
 abbrev pub end_of : Phase → (len : ℕ) → Step

@@ -2,33 +2,31 @@
 #![tactic(auto)]
 
 ghost use Rattle.std.specs.Prelude.{◌≡◌};
+ghost use Rattle.lexer.specs.Word.{checked_of};
 ghost use Rattle.parser.specs.Steps.{Scanned, end_of, next_step, step_of, word_of, word_step};
+ghost use Rattle.statement.specs.Step.{as_step};
 
 use lexer::Checked;
-use scene::Settings;
+use scene::{Reason, Settings};
 use statement::{Opening, Phase, Seen, State, Step};
 
 // What the text's end comes to.
 fn at_end(phase: Phase, len: usize) -> Step
-    ensures { result ≡ end_of phase len }
+    ensures { as_step result ≡ end_of phase len }
 {
     if statement::is_idle(phase) {
         return Step::Ended;
     }
-    Step::Refused(5, len)
+    statement::refused(Reason::EndsInStatement, len)
 }
 
 // What a good word comes to in the phase that the state is in.
 fn advance(word: &[u8], settings: Settings, s: State, v: Seen) -> Step
-    ensures { result ≡ step_of s.phase word.now settings s v }
+    ensures { as_step result ≡ step_of s.phase word.now settings s v }
 {
-    let phase = s.phase;
-    match phase {
+    match s.phase {
         Phase::Idle => statement::modifier(word, settings.records, s, v),
-        Phase::Kind => {
-            let mode = settings.mode;
-            statement::kind(word, mode, s, v)
-        }
+        Phase::Kind => statement::kind(word, settings.mode, s, v),
         Phase::Name => statement::name(Phase::StringCount, word, s, v),
         Phase::StringCount => arguments::string_count(word, s, v),
         Phase::FirstString => arguments::first_string(s, v),
@@ -51,13 +49,13 @@ fn word_step(
     s: State,
     word: Checked,
 ) -> Step
-    requires { Scanned text.now word }
-    ensures { result ≡ word_step text.now records.now reals.now index.now settings s (word_of word) }
+    requires { Scanned text.now (checked_of word) }
+    ensures { as_step result ≡ word_step text.now records.now reals.now index.now settings s (word_of (checked_of word)) }
 {
     let place = word.place;
     let bytes = lexer::part(text, place, word.len);
-    if word.fault != 0 {
-        return Step::Refused(word.fault as u32, place);
+    if let Some(fault) = word.fault {
+        return statement::refused(fault.into(), place);
     }
     let t = statement::moved(s, place + word.len + 1);
     let seen = context::look(text, records, reals, index, t, place, bytes);
@@ -74,20 +72,19 @@ pub fn next_step(
     settings: Settings,
     s: State,
 ) -> Step
-    ensures { result ≡ next_step text.now records.now reals.now index.now settings s }
+    ensures { as_step result ≡ next_step text.now records.now reals.now index.now settings s }
 {
     let word = lexer::checked_word(text, s.at);
-    let phase = s.phase;
     if word.len == 0 {
-        return at_end(phase, text.len());
+        return at_end(s.phase, text.len());
     }
     let place = word.place;
-    match statement::opens(phase, text[place]) {
+    match statement::opens(s.phase, text[place]) {
         Opening::Comment => {
             let end = lexer::line_end(text, place);
             Step::Going(statement::moved(s, end + 1))
         }
-        Opening::Command => Step::Refused(4, place),
+        Opening::Command => statement::refused(Reason::Command, place),
         Opening::Word => word_step(text, records, reals, index, settings, s, word),
     }
 }

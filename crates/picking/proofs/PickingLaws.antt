@@ -4,6 +4,7 @@ use mathlib.Core.List.{List}
 use mathlib.Core.Logic.{◌⊎◌, inl, inr}
 use mathlib.Core.Path.{◌≡◌, refl, ap, sym, ◌∙◌}
 use Prim.Native.Nat.{ℕ, zero, suc, ◌+◌, ◌-◌, ◌/◌, ◌≤◌, ◌<◌}
+use Rattle.std.specs.Prelude.{Some, None}
 use native.Mathlib.Numerals.{add-one}
 use native.Mathlib.Omega.{arith}
 use borrow.Author.Tests.{eq-eqb, le-leb, lt-leb, ne_eqb}
@@ -14,7 +15,6 @@ use Rattle.joining.specs.declared.Choice.{Choice}
 use Rattle.joining.specs.declared.Choice.TheVariants.{Clash, Left, Right}
 use Rattle.laws.proofs.NatLaws.{le_or_lt}
 use Rattle.picking.specs.Picking.{Picks, choice_left, choice_right, clash_to, is_equal, mark_at, mark_left, mark_right, right_kept, taken_to}
-use Rattle.picking.specs.declared.Picked.TheVariants as answer
 use Rattle.table.specs.Number.{number_in}
 use Rattle.tabled.proofs.TabledLaws.{tabling_all, tabling_more, tabling_none}
 use Rattle.tabled.specs.Tabled.{Tabling}
@@ -112,16 +112,16 @@ module _ (mark : ℕ → ℕ) where
             go (inl k) = k
             go (inr k) = absurd (f (omega arith))
 
-    pub picks_clash : v ≡ 2 → i < length old → Picks mark (length old) answer.Clash new
-    picks_clash z l =
+    pub picks_clash : v ≡ 2 → i < length old → (left : List ℕ) → Picks mark (length old) None left
+    picks_clash z l left =
         let c = clash_kept (i + 1) (length old) (omega arith) (next_clash i v h.free e ∙ eq-eqb v 2 z) in
-        record { answer = sym (ap (λ (b : Bool). cond b answer.Clash (answer.Count (taken_to mark (length old)))) c); marked = λ f. absurd (false≢true (sym f ∙ c)) }
+        record { answer = sym (ap (λ (b : Bool). cond b None (Some (taken_to mark (length old)))) c); marked = λ f. absurd (false≢true (sym f ∙ c)) }
 
-  pub picks_all : (old new : List ℕ) (count i : ℕ) → Picking mark old new count i → length new ≤ i → Picks mark (length old) (answer.Count count) new
+  pub picks_all : (old new : List ℕ) (count i : ℕ) → Picking mark old new count i → length new ≤ i → Picks mark (length old) (Some count) new
   picks_all old new count i h l =
       let z : i ≡ length old = omega (arith, h.table.most, h.table.size) in
       record {
-        answer = ap answer.Count (h.total ∙ ap (taken_to mark) z) ∙ sym (ap (λ (b : Bool). cond b answer.Clash (answer.Count (taken_to mark (length old)))) (ap (clash_to mark) (sym z) ∙ h.free));
+        answer = ap Some (h.total ∙ ap (taken_to mark) z) ∙ sym (ap (λ (b : Bool). cond b None (Some (taken_to mark (length old)))) (ap (clash_to mark) (sym z) ∙ h.free));
         marked = λ f. tabling_all mark old new i h.table l;
       }
 

@@ -1,11 +1,9 @@
 -- What is taken of two hands' scenes, by matches. A match is twice the number of a record there, 0 for none, and one more where both
 -- are equal.
-use Rattle.std.specs.Prelude.{Bool, false, ◌||◌, cond, List, ◌≡◌, ℕ, zero, suc, ◌+◌, ◌-◌, ◌/◌, ◌%◌, eqb, leb, length}
+use Rattle.std.specs.Prelude.{Bool, false, ◌||◌, cond, List, Option, Some, None, ◌≡◌, ℕ, zero, suc, ◌+◌, ◌-◌, ◌/◌, ◌%◌, eqb, leb, length}
 use Rattle.joining.specs.Pick.{chosen}
 use Rattle.joining.specs.declared.Choice.{Choice}
 use Rattle.joining.specs.declared.Choice.TheVariants.{Clash, Left, Right}
-use Rattle.picking.specs.declared.Picked.{Picked}
-use Rattle.picking.specs.declared.Picked.TheVariants as answer
 use Rattle.tabled.specs.Tabled.{tabled}
 use Rattle.table.specs.Number.{number_in}
 
@@ -58,6 +56,6 @@ unfoldable pub taken_to : (ℕ → ℕ) → ℕ → ℕ
 taken_to mark zero = 0
 taken_to mark (suc n) = taken_to mark n + mark (suc n)
 
-pub record Picks (mark : ℕ → ℕ) (n : ℕ) (r : Picked) (marks : List ℕ) : Type 0 where
-  pub answer : r ≡ cond (clash_to mark n) answer.Clash (answer.Count (taken_to mark n))
+pub record Picks (mark : ℕ → ℕ) (n : ℕ) (r : Option ℕ) (marks : List ℕ) : Type 0 where
+  pub answer : r ≡ cond (clash_to mark n) None (Some (taken_to mark n))
   pub marked : clash_to mark n ≡ false → marks ≡ tabled mark n

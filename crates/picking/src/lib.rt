@@ -4,24 +4,19 @@
 
 ghost use Rattle.std.specs.Prelude.{◌≡◌, length};
 ghost use Rattle.joining.specs.Pick.{chosen};
+ghost use Rattle.joining.specs.declared.Choice.TheVariants.{Left, Right};
 ghost use Rattle.picking.specs.Picking.{Picks, choice_left, choice_right, is_equal, mark_at, mark_left, mark_right, right_kept};
 
 use joining::Choice;
 use table::number_at;
 
-// What becomes of a record: it is dropped, it waits for its place, or its name clashes.
+// What becomes of a record: it is dropped, it waits for its place, or its name clashes. Numbers and no enum, as the definitions
+// `taken_to`, which adds them, `standing` and `order_from` have them in tables of numbers.
 pub const DROPPED: usize = 0;
 
 pub const WAITING: usize = 1;
 
 const CLASHES: usize = 2;
-
-// How many are taken, or that both hands changed a name differently.
-#[derive(Clone, Copy)]
-pub enum Picked {
-    Count(usize),
-    Clash,
-}
 
 // Whether a match is of equal definitions.
 pub fn is_equal(m: usize) -> bool
@@ -91,23 +86,15 @@ pub fn choice_right(
     choice_left(left_right, left_base, right_base, other / 2)
 }
 
-fn mark_left(choice: Choice) -> usize
-    ensures { result ≡ mark_left choice }
+// What becomes of a record whose own hand is taken by the choice `own`.
+fn mark_of(choice: Choice, own: Choice) -> usize
+    ensures left { own ≡ Left → result ≡ mark_left choice }
+    ensures right { own ≡ Right → result ≡ mark_right choice }
 {
-    match choice {
-        Choice::Left => WAITING,
-        Choice::Right => DROPPED,
-        Choice::Clash => CLASHES,
-    }
-}
-
-fn mark_right(choice: Choice) -> usize
-    ensures { result ≡ mark_right choice }
-{
-    match choice {
-        Choice::Left => DROPPED,
-        Choice::Right => WAITING,
-        Choice::Clash => CLASHES,
+    match (choice, own) {
+        (Choice::Clash, _) => CLASHES,
+        (Choice::Left, Choice::Left) | (Choice::Right, Choice::Right) => WAITING,
+        _ => DROPPED,
     }
 }
 
@@ -123,31 +110,31 @@ fn mark_at(
 {
     let split = right_left.len();
     if n <= split {
-        return mark_right(choice_right(left_right, left_base, right_left, right_base, n));
+        let choice = choice_right(left_right, left_base, right_left, right_base, n);
+        return mark_of(choice, Choice::Right);
     }
-    mark_left(choice_left(left_right, left_base, right_base, n - split))
+    let choice = choice_left(left_right, left_base, right_base, n - split);
+    mark_of(choice, Choice::Left)
 }
 
-// Marks what becomes of each, as many as the table takes.
+// Marks what becomes of each, as many as the table takes: how many are taken, or none where both hands changed a name differently.
 pub fn pick(
     left_right: &[usize],
     left_base: &[usize],
     right_left: &[usize],
     right_base: &[usize],
     marks: &mut [usize],
-) -> Picked
+) -> Option<usize>
     ensures { Picks (mark_at left_right.now left_base.now right_left.now right_base.now) (length marks.old) result marks.new }
 {
     let mut count = 0;
-    let mut i = 0;
-    while i < marks.len() {
+    for (i, place) in marks.iter_mut().enumerate() {
         let mark = mark_at(left_right, left_base, right_left, right_base, i + 1);
         if mark == CLASHES {
-            return Picked::Clash;
+            return None;
         }
-        marks[i] = mark;
+        *place = mark;
         count += mark;
-        i += 1;
     }
-    Picked::Count(count)
+    Some(count)
 }

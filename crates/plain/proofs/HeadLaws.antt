@@ -1,11 +1,11 @@
 -- The parts of a plain statement up to its reals: where its words lead, one law for each function.
-use mathlib.Core.Bool.{Bool, true, false, cond, not, ◌||◌}
+use mathlib.Core.Bool.{Bool, true, false, cond, ◌||◌}
 use mathlib.Core.List.{List, [], ◌∷◌}
 use mathlib.Core.Option.{some}
 use mathlib.Core.Path.{◌≡◌, refl, ap, sym, ◌∙◌, subst}
 use Prim.Native.Nat.{ℕ, zero, suc, ◌+◌, ◌≤◌, ◌<◌}
 use native.Mathlib.Omega.{arith}
-use borrow.Author.Tests.{eqb-false, ne_eqb, not-true}
+use borrow.Author.Tests.{ne_eqb}
 use lib.Dec.{eqb}
 use lib.Ieee.{Float}
 use lib.ListN.{get_or, length}
@@ -19,7 +19,6 @@ use Rattle.lexer.specs.Word.{word_at, word_bytes}
 use Rattle.plain.proofs.StepLaws.{alias_name_step, alias_step, integers_step, kind_step_lem, modifier_step_lem, name_step_lem, named_draft, reals_step, strings_step, target_step_lem, with_reals_lem}
 use Rattle.plain.specs.Plain.{Begins, Counting, Leads, Left, Links, Names, Opens, alias_at, idle_at, primitive_at, state_at}
 use Rattle.plain.specs.declared.Between.{Between}
-use Rattle.plain.specs.declared.Counts.{Counts}
 use Rattle.plain.specs.declared.Head.{Head}
 use Rattle.plain.specs.declared.Link.{Link}
 use Rattle.plain.specs.declared.Opened.{Opened}
@@ -39,8 +38,8 @@ use Rattle.statement.specs.declared.Opening.TheVariants as opening
 use Rattle.statement.specs.declared.Phase.TheVariants as is
 use Rattle.word_scan.proofs.PassLaws.{line_most, passed_on}
 use Rattle.word_scan.specs.Passing.{Passes, PassesCount, PassesWord}
-use Rattle.word_scan.specs.declared.Counted.{Counted}
 use Rattle.word_scan.specs.declared.Passed.{Passed}
+use Rattle.word_scan.specs.declared.Valued.{Valued}
 
 -- the count of entries looked at has room in 32 bits
 image_small : (size n : ℕ) (d : List Statement) (ph : ScenePhase) (k : Places) → (image size n d ph k).looked ≤ 4294967295
@@ -55,23 +54,20 @@ looked_small text T R X room s I = subst (λ (z : State). z.looked ≤ 429496729
 -- ---- the link
 
 module _ (text : Bytes) (T X : List ℕ) (count : ℕ) (w : Bytes) where
-  pub void_links : {q : Bool} → q ≡ same w void → q ≡ true → Links text T X count w (record { good = true; number = 0; looked = 0 })
+  pub void_links : {q : Bool} → q ≡ same w void → q ≡ true → Links text T X count w (record { number = 0; looked = 0 })
   unfolding is_looked_up
   void_links e h = let v : same w void ≡ true = sym e ∙ h in record { looked_is = rw v; leads = λ s p. rw v }
 
-  pub found_links : {q : Bool} → q ≡ same w void → q ≡ false → (f : Found) → f ≡ sought text T X count w → (n : ℕ) → n ≡ clipped f.number → not (eqb f.number 0) ≡ true
-      → Links text T X count w (record { good = not (eqb f.number 0); number = n; looked = f.looked })
+  pub found_links : {q : Bool} → q ≡ same w void → q ≡ false → (f : Found) → f ≡ sought text T X count w → (n : ℕ) → n ≡ clipped f.number → (f.number ≡ 0 → ⊥)
+      → Links text T X count w (record { number = n; looked = f.looked })
   unfolding is_looked_up
-  found_links e h f s n c g =
+  found_links e h f s n c is_some =
       let v : same w void ≡ false = sym e ∙ h in
       record {
         looked_is = ap (λ (z : Found). z.looked) s ∙ rw v;
         leads = λ t p. rw v (ap (λ (z : Found). link_to t p (clipped z.number)) (sym s) ∙ go t p (clipped f.number) refl ∙ ap (λ (z : ℕ). going_to t is.Kind 0 (opened z)) (sym c));
       }
     where
-      is_some : f.number ≡ 0 → ⊥
-      is_some = eqb-false f.number 0 (not-true (eqb f.number 0) g)
-
       go : (t : State) (p j : ℕ) → clipped f.number ≡ j → link_to t p j ≡ going_to t is.Kind 0 (opened j)
       go t p zero z = absurd (is_some (omega arith))
       go t p (suc j) z = refl
@@ -85,9 +81,9 @@ opens_word b h = rw (or_false_left (eqb b 35) (eqb b 33) h, or_false_right (eqb 
 
 module _ (text : Bytes) (T X : List ℕ) (room : Settings) where
   pub opens : (b : Between) (w : Passed) → PassesWord text b.at w → (eqb (get_or text w.place 0) 35 || eqb (get_or text w.place 0) 33) ≡ false → b.count < room.records
-      → (l : Link) (x : Bytes) → x ≡ part text w.place w.len → Links text T X b.count x l → (k : ℕ) → k ≡ clipped (b.looked + l.looked) → (g : Bool)
-      → Opens text T X room b (record { good = g; at = w.next; line = b.line + w.lines; looked = k; link = l.number })
-  opens b w P h f l x q L k e g = record {
+      → (l : Link) (x : Bytes) → x ≡ part text w.place w.len → Links text T X b.count x l → (k : ℕ) → k ≡ clipped (b.looked + l.looked)
+      → Opens text T X room b (record { at = w.next; line = b.line + w.lines; looked = k; link = l.number })
+  opens b w P h f l x q L k e = record {
     leads = λ R I.
         subst (λ (z : ℕ). Inv text T R X room (state_at b.count b.used w.next 0 z is.Kind (opened l.number))) (sym e)
         (modifier_step_lem text T R X room b.count b.used b.at b.looked (looked_small text T R X room (idle_at b) I) w.next w.lines P.passes l I
@@ -99,9 +95,8 @@ module _ (text : Bytes) (T X : List ℕ) (room : Settings) where
 
 -- ---- the name
 
-pub names : (text : Bytes) (at : ℕ) (w : Passed) → (w.good ≡ true → PassesWord text at w) → {q : Bool} {x : Bytes} → x ≡ part text w.place w.len → q ≡ same x void → q ≡ false → w.good ≡ true → Names text at w
-names text at w f p e h g =
-    let P = f g in
+pub names : (text : Bytes) (at : ℕ) (w : Passed) → PassesWord text at w → {q : Bool} {x : Bytes} → x ≡ part text w.place w.len → q ≡ same x void → q ≡ false → Names text at w
+names text at w P p e h =
     record { word = P; other = ap (λ (z : Bytes). same z void) (sym (p ∙ (λ i. part text (P.place_is i) (P.len_is i)))) ∙ sym e ∙ h }
 
 -- where a name stands
@@ -115,7 +110,6 @@ module _ (text : Bytes) (T X : List ℕ) (room : Settings) (b : Between) (link :
   pub begins_alias : (x : Bytes) → x ≡ part text t.place t.len → (f : Found) → f ≡ sought text T X b.count x → (f.number ≡ 0 → ⊥) → (o : Draft) → o ≡ draft_in T f.number
       → (k target place size : ℕ) → k ≡ clipped (b.looked + f.looked) → target ≡ clipped f.number → place ≡ clipped n.place → size ≡ clipped n.len
       → Begins text T X room (alias_at b link) b.line (record {
-        good = true;
         at = t.next;
         line = b.line + n.lines + t.lines;
         looked = k;
@@ -154,11 +148,11 @@ module _ (text : Bytes) (T X : List ℕ) (room : Settings) (b : Between) (link :
 -- ---- a primitive
 
 -- the three counts
-module _ (text : Bytes) (at : ℕ) (s i r : Counted) (S : PassesCount text at s) (I : PassesCount text s.next i) (R : PassesCount text i.next r) where
+module _ (text : Bytes) (at : ℕ) (s i r : Valued ℕ) (S : PassesCount text at s) (I : PassesCount text s.next i) (R : PassesCount text i.next r) where
   pub lines_fit : (s.lines + i.lines + r.lines ≤ length text)
   lines_fit = omega (arith, S.passes.lines_on, I.passes.lines_on, R.passes.lines_on, line_most text r.next)
 
-  pub counting : s.value ≡ 0 → i.value ≡ 0 → Counting text at (record { good = true; reals = r.value; next = r.next; lines = s.lines + i.lines + r.lines })
+  pub counting : s.value ≡ 0 → i.value ≡ 0 → Counting text at (record { value = r.value; next = r.next; lines = s.lines + i.lines + r.lines })
   counting a b = record {
     strings = s;
     integers = i;
@@ -173,7 +167,7 @@ module _ (text : Bytes) (at : ℕ) (s i r : Counted) (S : PassesCount text at s)
     lines_on = omega (arith, S.passes.lines_on, I.passes.lines_on, R.passes.lines_on);
   }
 
-module _ (text : Bytes) (T X : List ℕ) (room : Settings) (b : Between) (link kind : ℕ) (n : Passed) (c : Counts) (N : Names text b.at n) (C : Counting text n.next c) where
+module _ (text : Bytes) (T X : List ℕ) (room : Settings) (b : Between) (link kind : ℕ) (n : Passed) (c : Valued ℕ) (N : Names text b.at n) (C : Counting text n.next c) where
   -- the draft before its reals
   abbrev bare : Draft
   bare = record { kind = kind; modifier = link; target = 0; name = clipped (word_at text b.at).place; size = clipped (word_at text b.at).len; string = 0; strings = 0; real = 0; reals = 0 }
@@ -186,15 +180,14 @@ module _ (text : Bytes) (T X : List ℕ) (room : Settings) (b : Between) (link k
   counted_draft zero place size real p s r R k at next lines l P = sym (λ i. whole ((p ∙ ap clipped N.word.place_is) i) ((s ∙ ap clipped N.word.len_is) i) (r i) 0)
   counted_draft (suc m) place size real p s r R k at next lines l P = sym (λ i. whole ((p ∙ ap clipped N.word.place_is) i) ((s ∙ ap clipped N.word.len_is) i) ((r ∙ ap (λ (z : Bool). cond z 0 (clipped b.used)) (ne_eqb (suc m) 0 (λ e. omega arith))) i) (suc m))
 
-  pub begins_primitive : strings_allowed kind 0 ≡ true → reals_allowed kind c.reals ≡ true → b.used + c.reals ≤ room.reals → (place size real : ℕ) → place ≡ clipped n.place → size ≡ clipped n.len → real ≡ cond (eqb c.reals 0) 0 (clipped b.used)
+  pub begins_primitive : strings_allowed kind 0 ≡ true → reals_allowed kind c.value ≡ true → b.used + c.value ≤ room.reals → (place size real : ℕ) → place ≡ clipped n.place → size ≡ clipped n.len → real ≡ cond (eqb c.value 0) 0 (clipped b.used)
       → Begins text T X room (primitive_at b link kind) b.line (record {
-        good = true;
         at = c.next;
         line = b.line + n.lines + c.lines;
         looked = b.looked;
-        reals = c.reals;
+        reals = c.value;
         named = b.line + n.before;
-        draft = whole place size real c.reals;
+        draft = whole place size real c.value;
       })
   begins_primitive a r f place size real ep es er =
       let s = C.strings in
@@ -210,8 +203,8 @@ module _ (text : Bytes) (T X : List ℕ) (room : Settings) (b : Between) (link k
             let at_strings = name_step_lem text T R X room b.count b.used b.at b.looked l n.next n.lines N.word.passes (with_kind (opened link) kind) I N.other in
             let at_integers = strings_step text T R X room b.count b.used n.next b.looked l s.next s.lines C.strings_are.passes _ at_strings (C.strings_are.value_is ∙ ap some C.no_strings) a in
             let at_reals = integers_step text T R X room b.count b.used s.next b.looked l i.next i.lines C.integers_are.passes bare at_integers (C.integers_are.value_is ∙ ap some C.no_integers) in
-            let all = reals_step text T R X room b.count b.used i.next b.looked l u.next u.lines C.reals_are.passes bare c.reals at_reals (C.reals_are.value_is ∙ ap some (sym C.so_many)) r f in
-            subst (λ (z : State). Left text T R X room c.reals z) (λ j. state_at b.count b.used (sym C.behind j) 0 b.looked is.Real (counted_draft c.reals place size real ep es er R b.looked i.next u.next u.lines l C.reals_are.passes j)) all;
+            let all = reals_step text T R X room b.count b.used i.next b.looked l u.next u.lines C.reals_are.passes bare c.value at_reals (C.reals_are.value_is ∙ ap some (sym C.so_many)) r f in
+            subst (λ (z : State). Left text T R X room c.value z) (λ j. state_at b.count b.used (sym C.behind j) 0 b.looked is.Real (counted_draft c.value place size real ep es er R b.looked i.next u.next u.lines l C.reals_are.passes j)) all;
         further = omega (arith, p0.0, p1.0, p2.0, p3.0, C.behind);
         line_on = omega (arith, N.word.passes.lines_on, C.lines_on);
         place = n.place;

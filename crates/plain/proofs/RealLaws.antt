@@ -1,10 +1,10 @@
 -- The reals of a plain statement: what one of them does, and a row of them.
-use mathlib.Core.Bool.{Bool, true, false, ◌&&◌, and-false}
+use mathlib.Core.Bool.{Bool, true, false, and-false}
 use mathlib.Core.List.{List, [], ◌∷◌}
 use mathlib.Core.Path.{◌≡◌, refl, sym, ◌∙◌, subst}
 use Prim.Native.Nat.{ℕ, suc, ◌+◌, ◌-◌, ◌<◌}
 use native.Mathlib.Omega.{arith}
-use borrow.Author.Tests.{leb-false, leb-true, ne_eqb}
+use borrow.Author.Tests.{leb-true, ne_eqb}
 use lib.Dec.{leb}
 use lib.Ieee.{Float}
 use lib.ListN.{length, set}
@@ -38,14 +38,14 @@ early (r ∷ hs) t k x y z e h =
     let late = leb-true 3 r.real (and_left (leb 3 r.real) (all (λ (h : House). leb 3 h.real) hs) e) in
     rw (ne_eqb r.real k (λ q. omega arith), and-false, early hs t k x y z (and_right (leb 3 r.real) (all (λ (h : House). leb 3 h.real) hs) e) h)
 
-pub breaks_none : (t k : ℕ) (x y z : Float) {q : Bool} → q ≡ is_ruled house_rules t → (leb 3 k && q) ≡ false → false ≡ breach_at house_rules t k x y z
-breaks_none t k x y z {q} e h = go (leb 3 k) refl h
-  where
-    go : (b : Bool) → leb 3 k ≡ b → (b && q) ≡ false → false ≡ breach_at house_rules t k x y z
-    go true l g = sym (unruled house_rules t k x y z (sym e ∙ g))
-    go false l g = sym (early house_rules t k x y z late_rules (leb-false 3 k l))
+module _ (t k : ℕ) (x y z : Float) where
+  pub breaks_early : k < 3 → false ≡ breach_at house_rules t k x y z
+  breaks_early h = sym (early house_rules t k x y z late_rules h)
 
-pub stores : (text : Bytes) (R : List Float) (room : ℕ) (d : Draft) (m used at : ℕ) (x : Valued) → PassesReal text at x → {b : Bool} → b ≡ breach_at house_rules d.kind (d.reals - m) x.value (back R used 1) (back R used 2) → b ≡ false → used < room → used < length R
+  pub breaks_unruled : {q : Bool} → q ≡ is_ruled house_rules t → q ≡ false → false ≡ breach_at house_rules t k x y z
+  breaks_unruled e h = sym (unruled house_rules t k x y z (sym e ∙ h))
+
+pub stores : (text : Bytes) (R : List Float) (room : ℕ) (d : Draft) (m used at : ℕ) (x : Valued Float) → PassesReal text at x → {b : Bool} → b ≡ breach_at house_rules d.kind (d.reals - m) x.value (back R used 1) (back R used 2) → b ≡ false → used < room → used < length R
     → Stores text R room d m used at x (set R used x.value)
 stores text R room d m used at x P e h f l = record {
   leads = λ T X settings count k q L. real_step_lem text T R X settings count used at k (looked_small text T R X settings (state_at count used at m k is.Real d) L) x.next x.lines P.passes d m x.value L P.value_is (sym e ∙ h) (omega arith) (set R used x.value) refl;
@@ -58,10 +58,9 @@ module _ (text : Bytes) (R : List Float) (room : Settings) (d : Draft) (f₀ : F
   fills_none = record { leads = λ T X count looked L. L; further = omega arith; line_on = refl }
 
   -- a turn
-  pub fills_more : (f : Filled) (D : List Float) → Fills text R room d f₀ f D → 0 < f.left → (x : Valued) (E : List Float) → Stores text D room.reals d (f.left - 1) f.used f.at x E
-      → Fills text R room d f₀ (record { left = f.left - 1; at = x.next; line = f.line + x.lines; used = f.used + 1 }) E
-  fills_more f D F n x E S =
-      let one : f.left ≡ suc (f.left - 1) = omega arith in
+  pub fills_more : (f : Filled) (D : List Float) → Fills text R room d f₀ f D → (m : ℕ) → f.left ≡ suc m → (x : Valued Float) (E : List Float) → Stores text D room.reals d m f.used f.at x E
+      → Fills text R room d f₀ (record { left = m; at = x.next; line = f.line + x.lines; used = f.used + 1 }) E
+  fills_more f D F m one x E S =
       let p = passed_on text f.at x.next x.lines S.passes in
       record {
         leads = λ T X count looked L. S.leads T X room count looked refl (subst (λ (z : ℕ). Left text T D X room z (state_at count f.used f.at 0 looked is.Real d)) one (F.leads T X count looked L));

@@ -18,7 +18,6 @@ use Rattle.laws.proofs.RunLaws.{run_length}
 use Rattle.laws.specs.Runs.{past, run}
 use Rattle.lexer.specs.Class.{is_blank, is_in_line, is_other}
 use Rattle.lexer.specs.Word.{word_at, word_bytes, word_end, word_fault}
-use Rattle.lexer.specs.declared.Word.{Word}
 use Rattle.numeral.specs.Count.{count_of}
 use Rattle.numeral.specs.Numeral.{numeral_of, value}
 use Rattle.linker.specs.Entered.{behind_in}
@@ -39,7 +38,7 @@ use Rattle.statement.specs.declared.Seen.{Seen}
 use Rattle.statement.specs.declared.State.{State}
 use Rattle.statement.specs.declared.Opening.TheVariants as opening
 use Rattle.statement.specs.declared.Phase.TheVariants as is
-use Rattle.statement.specs.declared.Step.TheVariants as to
+use Rattle.statement.specs.Step as to
 use Rattle.word_scan.specs.Passing.{Passes, PassesComment}
 use Rattle.word_scan.specs.declared.Skipped.{Skipped}
 

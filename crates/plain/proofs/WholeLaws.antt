@@ -78,7 +78,7 @@ module _ (text : Bytes) (T : List ℕ) (R : List Float) (X : List ℕ) (room : S
   pub line_bound : b.line ≤ 4294967295 + line_at text b.at → f.line ≤ 4294967295 + line_at text f.at
   line_bound l = omega (arith, B.line_on, F.line_on)
 
-  pub line_kept : b.line ≡ line_at text b.at → f.line ≡ line_at text f.at
+  line_kept : b.line ≡ line_at text b.at → f.line ≡ line_at text f.at
   line_kept l = omega (arith, B.line_on, F.line_on)
 
   module _ (I : Inv text T R X room (idle_at b)) where
@@ -100,7 +100,7 @@ module _ (text : Bytes) (T : List ℕ) (R : List Float) (X : List ℕ) (room : S
         ap clipped (n ∙ sym told)
 
     -- the statement is entered
-    pub goes_whole : b.line ≡ line_at text b.at → b.count < room.records → f.left ≡ 0 → (line more k : ℕ) (T' X' : List ℕ) → line ≡ clipped h.named
+    goes_whole : b.line ≡ line_at text b.at → b.count < room.records → f.left ≡ 0 → (line more k : ℕ) (T' X' : List ℕ) → line ≡ clipped h.named
         → more ≡ looked_in text T X b.count h.draft → T' ≡ entered_at text T X b.count h.draft line → X' ≡ indexed_in text T X b.count h.draft
         → length T' ≡ length T → length X' ≡ length X → k ≡ clipped (h.looked + more) → Inv text T' D X' room (between f.at (b.count + 1) f.used k)
     goes_whole l few none line more k T' X' el em et ex st sx ek =
@@ -115,3 +115,9 @@ module _ (text : Bytes) (T : List ℕ) (R : List Float) (X : List ℕ) (room : S
       where
         t : State
         t = state_at b.count f.used f.at 0 h.looked is.Real h.draft
+
+  -- so a reading stands behind it
+  pub enters : Stands text T R X room b → b.count < room.records → f.left ≡ 0 → (line more k : ℕ) (T' X' : List ℕ) → line ≡ clipped h.named
+      → more ≡ looked_in text T X b.count h.draft → T' ≡ entered_at text T X b.count h.draft line → X' ≡ indexed_in text T X b.count h.draft
+      → length T' ≡ length T → length X' ≡ length X → k ≡ clipped (h.looked + more) → Stands text T' D X' room (record { at = f.at; line = f.line; count = b.count + 1; used = f.used; looked = k })
+  enters S few none line more k T' X' el em et ex st sx ek = record { inv = goes_whole S.inv S.line_is few none line more k T' X' el em et ex st sx ek; line_is = line_kept S.line_is }

@@ -5,7 +5,6 @@ use Rattle.index.specs.Searches.{sought}
 use Rattle.laws.specs.Bytes.{Bytes, same}
 use Rattle.lexer.specs.Word.{word_bytes}
 use Rattle.plain.specs.declared.Between.{Between}
-use Rattle.plain.specs.declared.Counts.{Counts}
 use Rattle.plain.specs.declared.Filled.{Filled}
 use Rattle.plain.specs.declared.Head.{Head}
 use Rattle.plain.specs.declared.Link.{Link}
@@ -21,7 +20,6 @@ use Rattle.statement.specs.declared.Phase.{Phase}
 use Rattle.statement.specs.declared.State.{State}
 use Rattle.statement.specs.declared.Phase.TheVariants as is
 use Rattle.word_scan.specs.Passing.{Passes, PassesCount, PassesWord}
-use Rattle.word_scan.specs.declared.Counted.{Counted}
 use Rattle.word_scan.specs.declared.Passed.{Passed}
 use Rattle.word_scan.specs.declared.Valued.{Valued}
 
@@ -59,16 +57,16 @@ abbrev pub Opens : Bytes → (table index : List ℕ) → Settings → Between �
 Opens text table index room b r = Leads text table index room (idle_at b) b.line (state_at b.count b.used r.at 0 r.looked is.Kind (opened r.link)) r.line
 
 -- the counts of a primitive with no strings
-pub record Counting (text : Bytes) (at : ℕ) (r : Counts) : Type 0 where
-  pub strings : Counted
-  pub integers : Counted
-  pub reals : Counted
+pub record Counting (text : Bytes) (at : ℕ) (r : Valued ℕ) : Type 0 where
+  pub strings : Valued ℕ
+  pub integers : Valued ℕ
+  pub reals : Valued ℕ
   pub strings_are : PassesCount text at strings
   pub no_strings : strings.value ≡ 0
   pub integers_are : PassesCount text strings.next integers
   pub no_integers : integers.value ≡ 0
   pub reals_are : PassesCount text integers.next reals
-  pub so_many : r.reals ≡ reals.value
+  pub so_many : r.value ≡ reals.value
   pub behind : r.next ≡ reals.next
   pub lines_on : line_at text at + r.lines ≡ line_at text r.next
 
@@ -91,7 +89,7 @@ pub record Begins (text : Bytes) (table index : List ℕ) (room : Settings) (s :
   pub named_on : r.named + line_at text s.at ≡ line + line_at text place
 
 -- one real stored where it is plain and breaks no rule, m being left behind it: D is what the table of reals then holds
-pub record Stores (text : Bytes) (reals : List Float) (room : ℕ) (d : Draft) (m used at : ℕ) (r : Valued) (D : List Float) : Type 0 where
+pub record Stores (text : Bytes) (reals : List Float) (room : ℕ) (d : Draft) (m used at : ℕ) (r : Valued Float) (D : List Float) : Type 0 where
   pub leads : (table index : List ℕ) (settings : Settings) (count looked : ℕ) → settings.reals ≡ room
       → Left text table reals index settings (suc m) (state_at count used at 0 looked is.Real d) → Left text table D index settings m (state_at count (used + 1) r.next 0 looked is.Real d)
   pub passes : Passes text at r.next r.lines

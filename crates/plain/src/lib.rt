@@ -2,7 +2,7 @@
 // them. What is written in another way, or wrongly, is left to the steps of the parser, which begin where the last plain word ended.
 #![tactic(auto)]
 
-ghost use Rattle.std.specs.Prelude.{cond, false, true, List, ◌≡◌, ℕ, ◌+◌, ◌-◌, ◌≤◌, ◌<◌, eqb};
+ghost use Rattle.std.specs.Prelude.{cond, List, ◌≡◌, ℕ, ◌+◌, ◌-◌, ◌≤◌, ◌<◌, eqb, IfSome, MatchOption};
 ghost use Rattle.plain.specs.Plain.{Begins, Counting, Fills, Links, Names, Opens, Stores, alias_at, idle_at, primitive_at, state_at, unfilled};
 ghost use Rattle.context.specs.Seen.{back};
 ghost use Rattle.progress.specs.Invariant.{Inv};
@@ -29,7 +29,6 @@ struct Between {
 // The number that a modifier leads to, and the entries looked at for it.
 #[derive(Clone, Copy)]
 struct Link {
-    good: bool,
     number: u32,
     looked: u32,
 }
@@ -37,27 +36,16 @@ struct Link {
 // A statement behind its modifier: the place and the line there, the entries looked at, and the link.
 #[derive(Clone, Copy)]
 struct Opened {
-    good: bool,
     at: usize,
     line: usize,
     looked: u32,
     link: u32,
 }
 
-// The counts of a primitive that has no strings: how many reals come, the place behind, and the lines that end before it.
-#[derive(Clone, Copy)]
-struct Counts {
-    good: bool,
-    reals: u32,
-    next: usize,
-    lines: usize,
-}
-
 // A statement up to its reals: the place and the line there, the entries looked at, how many reals come, the line of its name, and
 // its record.
 #[derive(Clone, Copy)]
 struct Head {
-    good: bool,
     at: usize,
     line: usize,
     looked: u32,
@@ -75,131 +63,78 @@ struct Filled {
     used: usize,
 }
 
-fn wide(n: u32) -> usize
-    ensures { result ≡ n }
-{
-    n as usize
-}
-
-fn sum(a: u32, b: u32) -> u32
-    ensures { result ≡ clipped (a + b) }
-{
-    narrow(wide(a) + wide(b))
-}
-
-fn nothing() -> Head
-    ensures { result.good ≡ false }
-{
-    Head {
-        good: false,
-        at: 0,
-        line: 0,
-        looked: 0,
-        reals: 0,
-        named: 0,
-        draft: statement::linked(0),
-    }
-}
-
-fn no_modifier() -> Opened
-    ensures { result.good ≡ false }
-{
-    Opened {
-        good: false,
-        at: 0,
-        line: 0,
-        looked: 0,
-        link: 0,
-    }
-}
-
-fn no_counts() -> Counts
-    ensures { result.good ≡ false }
-{
-    Counts {
-        good: false,
-        reals: 0,
-        next: 0,
-        lines: 0,
-    }
-}
-
 // The modifier's link.
-fn link_of(text: &[u8], records: &[u32], index: &[u32], count: usize, word: &[u8]) -> Link
-    ensures { result.good ≡ true → Links text.now records.now index.now count word.now result }
+fn link_of(text: &[u8], records: &[u32], index: &[u32], count: usize, word: &[u8]) -> Option<Link>
+    ensures { IfSome result (Links text.now records.now index.now count word.now) }
 {
     if lexer::same(word, b"void") {
-        return Link {
-            good: true,
+        return Some(Link {
             number: 0,
             looked: 0,
-        };
+        });
     }
     let found = index::search(text, records, index, count, word);
-    Link {
-        good: found.number != 0,
+    if found.number == 0 {
+        return None;
+    }
+    Some(Link {
         number: narrow(found.number),
         looked: found.looked,
-    }
+    })
 }
 
 // The modifier of a statement.
-fn modifier(text: &[u8], records: &[u32], index: &[u32], settings: Settings, b: Between) -> Opened
+fn modifier(
+    text: &[u8],
+    records: &[u32],
+    index: &[u32],
+    settings: Settings,
+    b: Between,
+) -> Option<Opened>
     requires { b.line ≤ 4294967295 + line_at text.now b.at }
-    ensures { result.good ≡ true → Opens text.now records.now index.now settings b result }
+    ensures { IfSome result (Opens text.now records.now index.now settings b) }
 {
-    let w = word_scan::word(text, b.at);
-    if !w.good {
-        return no_modifier();
-    }
-    let place = w.place;
-    let first = text[place];
-    if (first == b'#') | (first == b'!') {
-        return no_modifier();
+    let w = word_scan::word(text, b.at)?;
+    let first = text[w.place];
+    if first == b'#' || first == b'!' {
+        return None;
     }
     if settings.records <= b.count {
-        return no_modifier();
+        return None;
     }
     let l = link_of(
         text,
         records,
         index,
         b.count,
-        lexer::part(text, place, w.len),
-    );
-    Opened {
-        good: l.good,
+        lexer::part(text, w.place, w.len),
+    )?;
+    Some(Opened {
         at: w.next,
         line: b.line + w.lines,
-        looked: sum(b.looked, l.looked),
+        looked: b.looked.saturating_add(l.looked),
         link: l.number,
-    }
+    })
 }
 
 // The name that stands next.
-fn name(text: &[u8], at: usize) -> Passed
-    ensures { result.good ≡ true → Names text.now at result }
+fn name(text: &[u8], at: usize) -> Option<Passed>
+    ensures { IfSome result (Names text.now at) }
 {
-    let w = word_scan::word(text, at);
+    let w = word_scan::word(text, at)?;
     if lexer::same(lexer::part(text, w.place, w.len), b"void") {
-        return word_scan::no_word();
+        return None;
     }
-    w
+    Some(w)
 }
 
 // An alias, behind the word `alias`: its name and its target.
-fn alias(text: &[u8], records: &[u32], index: &[u32], b: Between, link: u32) -> Head
+fn alias(text: &[u8], records: &[u32], index: &[u32], b: Between, link: u32) -> Option<Head>
     requires { b.line ≤ 4294967295 + line_at text.now b.at }
-    ensures { result.good ≡ true → (room : Settings) → Begins text.now records.now index.now room (alias_at b link) b.line result }
+    ensures { IfSome result (λ head. (room : Settings) → Begins text.now records.now index.now room (alias_at b link) b.line head) }
 {
-    let n = name(text, b.at);
-    if !n.good {
-        return nothing();
-    }
-    let t = word_scan::word(text, n.next);
-    if !t.good {
-        return nothing();
-    }
+    let n = name(text, b.at)?;
+    let t = word_scan::word(text, n.next)?;
     let found = index::search(
         text,
         records,
@@ -209,14 +144,13 @@ fn alias(text: &[u8], records: &[u32], index: &[u32], b: Between, link: u32) -> 
     );
     let number = found.number;
     if number == 0 {
-        return nothing();
+        return None;
     }
     let o = context::source_of(records, number);
-    Head {
-        good: true,
+    Some(Head {
         at: t.next,
         line: b.line + n.lines + t.lines,
-        looked: sum(b.looked, found.looked),
+        looked: b.looked.saturating_add(found.looked),
         reals: 0,
         named: b.line + n.before,
         draft: Draft {
@@ -230,74 +164,59 @@ fn alias(text: &[u8], records: &[u32], index: &[u32], b: Between, link: u32) -> 
             real: o.real,
             reals: o.reals,
         },
-    }
+    })
 }
 
 // The index of the first of n reals.
 fn first_real(n: u32, used: usize) -> u32
     ensures { result ≡ cond (eqb n 0) 0 (clipped used) }
 {
-    if n == 0 {
-        return 0;
-    }
-    narrow(used)
+    if n == 0 { 0 } else { narrow(used) }
 }
 
-// The counts behind a name: of no strings, of no integers, and of the reals.
-fn counts_at(text: &[u8], at: usize) -> Counts
-    ensures { result.good ≡ true → Counting text.now at result }
+// The counts behind a name: of no strings, of no integers, and of the reals. The value is that of the reals, and the lines are those
+// of all three.
+fn counts_at(text: &[u8], at: usize) -> Option<Valued<u32>>
+    ensures { IfSome result (Counting text.now at) }
 {
-    let s = word_scan::count(text, at);
-    if !s.good {
-        return no_counts();
-    }
+    let s = word_scan::count(text, at)?;
     if s.value != 0 {
-        return no_counts();
+        return None;
     }
-    let i = word_scan::count(text, s.next);
-    if !i.good {
-        return no_counts();
-    }
+    let i = word_scan::count(text, s.next)?;
     if i.value != 0 {
-        return no_counts();
+        return None;
     }
-    let r = word_scan::count(text, i.next);
-    if !r.good {
-        return no_counts();
-    }
-    Counts {
-        good: true,
-        reals: r.value,
+    let r = word_scan::count(text, i.next)?;
+    Some(Valued {
+        value: r.value,
         next: r.next,
         lines: s.lines + i.lines + r.lines,
-    }
+    })
 }
 
 // A primitive without strings, behind its type: its name and its counts.
-fn primitive(text: &[u8], settings: Settings, b: Between, link: u32, kind: u32) -> Head
+fn primitive(text: &[u8], settings: Settings, b: Between, link: u32, kind: u32) -> Option<Head>
     requires { b.line ≤ 4294967295 + line_at text.now b.at }
-    ensures { result.good ≡ true → (table index : List ℕ) → Begins text.now table index settings (primitive_at b link kind) b.line result }
+    ensures { IfSome result (λ head. (table index : List ℕ) → Begins text.now table index settings (primitive_at b link kind) b.line head) }
 {
-    let n = name(text, b.at);
-    if !n.good {
-        return nothing();
+    let n = name(text, b.at)?;
+    let c = counts_at(text, n.next)?;
+    let reals = c.value;
+    if !kinds::strings_allowed(kind, 0) {
+        return None;
     }
-    let c = counts_at(text, n.next);
-    if !c.good {
-        return nothing();
+    if !kinds::reals_allowed(kind, reals) {
+        return None;
     }
-    if !(kinds::strings_allowed(kind, 0) & kinds::reals_allowed(kind, c.reals)) {
-        return nothing();
+    if !arguments::fits(b.used, reals, settings.reals) {
+        return None;
     }
-    if !arguments::fits(b.used, c.reals, settings.reals) {
-        return nothing();
-    }
-    Head {
-        good: true,
+    Some(Head {
         at: c.next,
         line: b.line + n.lines + c.lines,
         looked: b.looked,
-        reals: c.reals,
+        reals,
         named: b.line + n.before,
         draft: Draft {
             kind,
@@ -307,25 +226,25 @@ fn primitive(text: &[u8], settings: Settings, b: Between, link: u32, kind: u32) 
             size: narrow(n.len),
             string: 0,
             strings: 0,
-            real: first_real(c.reals, b.used),
-            reals: c.reals,
+            real: first_real(reals, b.used),
+            reals,
         },
-    }
+    })
 }
 
 // A statement up to its reals.
-fn head_at(text: &[u8], records: &[u32], index: &[u32], settings: Settings, b: Between) -> Head
+fn head_at(
+    text: &[u8],
+    records: &[u32],
+    index: &[u32],
+    settings: Settings,
+    b: Between,
+) -> Option<Head>
     requires { b.line ≤ 4294967295 + line_at text.now b.at }
-    ensures { result.good ≡ true → Begins text.now records.now index.now settings (idle_at b) b.line result }
+    ensures { IfSome result (Begins text.now records.now index.now settings (idle_at b) b.line) }
 {
-    let m = modifier(text, records, index, settings, b);
-    if !m.good {
-        return nothing();
-    }
-    let w = word_scan::word(text, m.at);
-    if !w.good {
-        return nothing();
-    }
+    let m = modifier(text, records, index, settings, b)?;
+    let w = word_scan::word(text, m.at)?;
     let c = Between {
         at: w.next,
         line: m.line + w.lines,
@@ -339,11 +258,11 @@ fn head_at(text: &[u8], records: &[u32], index: &[u32], settings: Settings, b: B
     }
     let kind = type_names::type_number(bytes);
     if kind == 0 {
-        return nothing();
+        return None;
     }
     let mode = settings.mode;
     if kinds::is_retired(mode, kind) {
-        return nothing();
+        return None;
     }
     primitive(text, settings, c, m.link, kind)
 }
@@ -352,13 +271,16 @@ fn head_at(text: &[u8], records: &[u32], index: &[u32], settings: Settings, b: B
 fn breaks(reals: &[f64], d: Draft, left: u32, used: usize, x: f64) -> bool
     ensures { result ≡ breach_at house_rules d.kind (d.reals - left) x (back reals.now used 1) (back reals.now used 2) }
 {
-    let count = arguments::less(d.reals, left);
-    if (3 <= count) & kinds::is_ruled(d.kind) {
-        let previous = context::back(reals, used, 1);
-        let first = context::back(reals, used, 2);
-        return kinds::breaches(d.kind, count, x, previous, first);
+    let count = d.reals.saturating_sub(left);
+    if count < 3 {
+        return false;
     }
-    false
+    if !kinds::is_ruled(d.kind) {
+        return false;
+    }
+    let previous = context::back(reals, used, 1);
+    let first = context::back(reals, used, 2);
+    kinds::breaches(d.kind, count, x, previous, first)
 }
 
 // The next real, stored where it is plain and breaks no rule. So many are left behind it.
@@ -370,22 +292,18 @@ fn store(
     left: u32,
     used: usize,
     at: usize,
-) -> Valued
-    ensures stores { result.good ≡ true → Stores text.now reals.old room d left used at result reals.new }
-    ensures reals_unchanged { result.good ≡ false → reals.new ≡ reals.old }
+) -> Option<Valued<f64>>
+    ensures { MatchOption result (reals.new ≡ reals.old) (λ x. Stores text.now reals.old room d left used at x reals.new) }
 {
-    let x = word_scan::real(text, at);
-    if !x.good {
-        return x;
-    }
+    let x = word_scan::real(text, at)?;
     if breaks(reals, d, left, used, x.value) {
-        return word_scan::no_real();
+        return None;
     }
-    if (room <= used) | (reals.len() <= used) {
-        return word_scan::no_real();
+    if room.min(reals.len()) <= used {
+        return None;
     }
     reals[used] = x.value;
-    x
+    Some(x)
 }
 
 // The reals of a statement, stored as far as they are plain.
@@ -400,12 +318,10 @@ fn fill(text: &[u8], reals: &mut [f64], settings: Settings, h: Head, used: usize
         line: h.line,
         used,
     };
-    while 0 < f.left {
-        let left = f.left - 1;
-        let x = store(text, reals, settings.reals, d, left, f.used, f.at);
-        if !x.good {
+    for left in (0..h.reals).rev() {
+        let Some(x) = store(text, reals, settings.reals, d, left, f.used, f.at) else {
             return f;
-        }
+        };
         f = Filled {
             left,
             at: x.next,
@@ -421,7 +337,6 @@ fn at_real(count: usize, h: Head, f: Filled) -> State
     requires { 0 < f.left }
     ensures { result ≡ state_at count f.used f.at (f.left - 1) h.looked Real h.draft }
 {
-    let d = h.draft;
     State {
         at: f.at,
         count,
@@ -429,7 +344,7 @@ fn at_real(count: usize, h: Head, f: Filled) -> State
         left: f.left - 1,
         looked: h.looked,
         phase: Phase::Real,
-        draft: d,
+        draft: h.draft,
     }
 }
 
@@ -452,22 +367,20 @@ pub fn statements(
     }
     let mut b = Between {
         at: s.at,
-        line: wide(narrow(line_numbers::line_of(text, records, s.count, s.at))),
+        line: narrow(line_numbers::line_of(text, records, s.count, s.at)) as usize,
         count: s.count,
         used: s.used,
         looked: s.looked,
     };
     while b.count < settings.records {
-        let h = head_at(text, records, index, settings, b);
-        if !h.good {
-            let c = word_scan::comment(text, b.at);
-            if !c.good {
+        let Some(h) = head_at(text, records, index, settings, b) else {
+            let Some(c) = word_scan::comment(text, b.at) else {
                 return statement::between(b.at, b.count, b.used, b.looked);
-            }
+            };
             b.at = c.next;
             b.line += c.lines;
             continue;
-        }
+        };
         let f = fill(text, reals, settings, h, b.used);
         if 0 < f.left {
             return at_real(b.count, h, f);
@@ -478,7 +391,7 @@ pub fn statements(
             line: f.line,
             count: b.count + 1,
             used: f.used,
-            looked: sum(h.looked, more),
+            looked: h.looked.saturating_add(more),
         };
     }
     statement::between(b.at, b.count, b.used, b.looked)

@@ -21,21 +21,22 @@ use Rattle.joining.specs.declared.Scene.TheVariants as scene
 use Rattle.laws.specs.Bytes.{Bytes}
 use Rattle.name_index.specs.Names.{names_once_in}
 use Rattle.pair.specs.Both.{ReadsBoth, beside, both_answer}
-use Rattle.pair.specs.declared.Both.TheVariants as both
+use Rattle.pair.specs.Both as both
 use Rattle.pair.specs.declared.Side.{Side}
 use Rattle.pair.specs.declared.Side.TheVariants as on
 use Rattle.picking.specs.Picking.{clash_to, taken_to}
 use Rattle.planning.specs.Plan.{HandPlans, Means, Plans, RowPlans, order_answer, row_answer, side_scene}
-use Rattle.planning.specs.declared.Order.{Order}
-use Rattle.planning.specs.declared.Order.TheVariants.{Made, Stopped}
-use Rattle.planning.specs.declared.Reply.{Reply}
-use Rattle.planning.specs.declared.Reply.TheVariants.{Refused}
+use Rattle.scene.specs.declared.Reason.{Reason}
+use Rattle.scene.specs.declared.Reason.TheVariants.{NameTwice}
+use Rattle.std.specs.Prelude.{Result, Ok, Err}
+use Rattle.planning.specs.Plan.{Reply}
+use Rattle.planning.specs.Plan.{Refused}
 use Rattle.reader.proofs.ReadsLaws.{accepted_as, refused_as}
 use Rattle.reader.specs.Answer.{Reads, read_into}
-use Rattle.reader.specs.declared.Answer.TheVariants as reader
+use Rattle.reader.specs.Answer as reader
 use Rattle.scene.specs.Reading as reading
 use Rattle.scene.specs.Reading.{Entry, Reading, accepted, statements}
-use Rattle.scene.specs.Record.{real_image, record_image, records, settings_for, width}
+use Rattle.scene.specs.Record.{real_image, record_image, settings_for, width}
 use Rattle.scene.specs.declared.Mode.{Mode}
 use Rattle.scene.specs.declared.Settings.{Settings}
 use Rattle.sides.proofs.FitLaws.{reals_kept}
@@ -86,15 +87,15 @@ module _ (base : Bytes) (B : List ℕ) (x : List Float) (left : Bytes) (L : List
   abbrev once : Bool
   once = names_once_in base B && names_once_in left L && names_once_in right R
 
-  pub rows_twice : true ≡ not once → RowPlans (row_plan base B x left L y right R z) order (Stopped 29) order
+  pub rows_twice : true ≡ not once → RowPlans (row_plan base B x left L y right R z) order (Err NameTwice) order
   unfolding row_plan
   rows_twice h = go once h
     where
-      go : (b : Bool) → true ≡ not b → RowPlans (cond b (pick_rows base B x left L y right R z) (stopped 29)) order (Stopped 29) order
+      go : (b : Bool) → true ≡ not b → RowPlans (cond b (pick_rows base B x left L y right R z) (stopped 29)) order (Err NameTwice) order
       go true e = let w : ◌≡◌ {A = ℕ} 0 1 = cc in absurd (omega arith)
       go false e = record { says = refl; size = refl }
 
-  pub rows_once : (r : Order) (order' : List ℕ) → false ≡ not once → RowPlans (pick_rows base B x left L y right R z) order r order' → RowPlans (row_plan base B x left L y right R z) order r order'
+  pub rows_once : (r : Result ℕ Reason) (order' : List ℕ) → false ≡ not once → RowPlans (pick_rows base B x left L y right R z) order r order' → RowPlans (row_plan base B x left L y right R z) order r order'
   unfolding row_plan
   rows_once r order' h p = go once h
     where
@@ -162,9 +163,9 @@ module _ (s : Settings) (few : s.records ≤ 1024) (base left right : Bytes) (bs
   counts : length R / width + length L / width ≡ length (statements ls ++ statements rs)
   counts = omega (arith, rows_count s left ls (resolved s left ls reads_left).reads, rows_count s right rs (resolved s right rs reads_right).reads, length-append (statements ls) (statements rs))
 
-  pub planned_rows : (r : Order) (order : List ℕ) → row_answer r order ≡ rows_plan → Means s base left right (order_answer r) order
-  planned_rows (Stopped n) order h = plans ∙ ap (plan_in (statements ls ++ statements rs)) (sym h)
-  planned_rows (Made n) order h = record {
+  pub planned_rows : (r : Result ℕ Reason) (order : List ℕ) → row_answer r order ≡ rows_plan → Means s base left right (order_answer r) order
+  planned_rows (Err n) order h = plans ∙ ap (plan_in (statements ls ++ statements rs)) (sym h)
+  planned_rows (Ok n) order h = record {
     lefts = ls;
     rights = rs;
     reads_left = reads_left;
@@ -254,7 +255,7 @@ module _ (mode : Mode) (n : ℕ) (base : Bytes) (B : List ℕ) (x : List Float) 
 
     -- what is lent of each hand's tables, and what is answered of it
     pub hands_read : (T : List ℕ) → T ≡ lr' → (L : List ℕ) → L ≡ take (min m (length T / width) * width) T → (y : List Float) → y ≡ lx' → (U : List ℕ) → U ≡ rr' → (R : List ℕ) → R ≡ take (min k (length U / width) * width) U → (z : List Float) → z ≡ rx'
-        → (r : Order) (order' : List ℕ) → RowPlans (row_plan base B x left L y right R z) order r order' → (a : Reply) → a ≡ order_answer r → HandPlans mode n base B x left right order a order'
+        → (r : Result ℕ Reason) (order' : List ℕ) → RowPlans (row_plan base B x left L y right R z) order r order' → (a : Reply) → a ≡ order_answer r → HandPlans mode n base B x left right order a order'
     hands_read T t L el y ey U u R er z ez r order' p a e =
         let left_rows : L ≡ used_rows left found.lefts = el ∙ left_rows_lem T t in
         let right_rows : R ≡ used_rows right found.rights = er ∙ right_rows_lem U u in

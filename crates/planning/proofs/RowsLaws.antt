@@ -20,10 +20,9 @@ use Rattle.laws.specs.Bytes.{Bytes}
 use Rattle.matching.specs.Matching.{match_of}
 use Rattle.picking.proofs.PickingLaws.{mark_low}
 use Rattle.picking.specs.Picking.{Picks, clash_to, mark_at, taken_to}
-use Rattle.picking.specs.declared.Picked.{Picked}
-use Rattle.picking.specs.declared.Picked.TheVariants.{Clash, Count}
 use Rattle.planning.specs.Plan.{RowPlans, others_of}
-use Rattle.planning.specs.declared.Order.TheVariants.{Made, Stopped}
+use Rattle.scene.specs.declared.Reason.TheVariants.{ChangedByBoth, NoOrder}
+use Rattle.std.specs.Prelude.{Option, Some, None, Ok, Err}
 use Rattle.scene.specs.Record.{width}
 use Rattle.tabled.proofs.TabledLaws.{tabled_length}
 use Rattle.tabled.specs.Tabled.{tabled}
@@ -49,7 +48,7 @@ both_tabled f g old front rest n m e p q =
 -- ---- what is taken
 
 -- what the code's `&others[split..]` holds
-pub rest_picks : (split : ℕ) (others left_base right_base : List ℕ) (n : ℕ) (r : Picked) (marks : List ℕ)
+pub rest_picks : (split : ℕ) (others left_base right_base : List ℕ) (n : ℕ) (r : Option ℕ) (marks : List ℕ)
     → Picks (mark_at (take (length others - split) (drop split others)) left_base (take split others) right_base) n r marks
     → Picks (mark_at (drop split others) left_base (take split others) right_base) n r marks
 rest_picks split others left_base right_base n r marks = subst (λ (t : List ℕ). Picks (mark_at t left_base (take split others) right_base) n r marks) (rest_of split others)
@@ -64,13 +63,13 @@ taken_few mark low (suc n) f = go (le_or_lt (mark (suc n)) 1) (taken_few mark lo
     go (inl h) ih = omega arith
     go (inr h) ih = absurd (eqb-false (mark (suc n)) 2 (or_false_right (clash_to mark n) (eqb (mark (suc n)) 2) f) (omega (arith, low (suc n))))
 
-abbrev is_clash : Picked → Bool
-is_clash Clash = true
-is_clash (Count k) = false
+abbrev is_clash : Option ℕ → Bool
+is_clash None = true
+is_clash (Some k) = false
 
-abbrev count_of : Picked → ℕ
-count_of Clash = 0
-count_of (Count k) = k
+abbrev count_of : Option ℕ → ℕ
+count_of None = 0
+count_of (Some k) = k
 
 -- so many are taken, by marks that do not clash
 pub record Counted (mark : ℕ → ℕ) (n k : ℕ) (marks : List ℕ) : Type 0 where
@@ -78,20 +77,20 @@ pub record Counted (mark : ℕ → ℕ) (n k : ℕ) (marks : List ℕ) : Type 0 
   pub total : k ≡ taken_to mark n
   pub marked : marks ≡ tabled mark n
 
-module _ (mark : ℕ → ℕ) (n : ℕ) (r : Picked) (marks : List ℕ) (h : Picks mark n r marks) where
-  clashing : r ≡ Clash → clash_to mark n ≡ true
+module _ (mark : ℕ → ℕ) (n : ℕ) (r : Option ℕ) (marks : List ℕ) (h : Picks mark n r marks) where
+  clashing : r ≡ None → clash_to mark n ≡ true
   clashing e = go (clash_to mark n) (sym e ∙ h.answer)
     where
-      go : (b : Bool) → Clash ≡ cond b Clash (Count (taken_to mark n)) → b ≡ true
+      go : (b : Bool) → None ≡ cond b None (Some (taken_to mark n)) → b ≡ true
       go true q = refl
       go false q = absurd (false≢true (sym (ap is_clash q)))
 
-  pub counted : (k : ℕ) → r ≡ Count k → Counted mark n k marks
+  pub counted : (k : ℕ) → r ≡ Some k → Counted mark n k marks
   counted k e =
       let f = go (clash_to mark n) (sym e ∙ h.answer) in
-      record { free = f; total = ap count_of (sym e ∙ h.answer ∙ ap (λ (b : Bool). cond b Clash (Count (taken_to mark n))) f); marked = h.marked f }
+      record { free = f; total = ap count_of (sym e ∙ h.answer ∙ ap (λ (b : Bool). cond b None (Some (taken_to mark n))) f); marked = h.marked f }
     where
-      go : (b : Bool) → Count k ≡ cond b Clash (Count (taken_to mark n)) → b ≡ false
+      go : (b : Bool) → Some k ≡ cond b None (Some (taken_to mark n)) → b ≡ false
       go false q = refl
       go true q = absurd (false≢true (ap is_clash q))
 
@@ -132,7 +131,7 @@ module _ (base : Bytes) (B : List ℕ) (x : List Float) (left : Bytes) (L : List
   both = others_of left L y right R z
 
   -- what is picked from the tables
-  pub rows_picked : (others of_left of_right : List ℕ) → others ≡ both → of_left ≡ left_base base B x left L y right R z → of_right ≡ right_base base B x left L y right R z → (n : ℕ) → n ≡ count → (r : Picked) (marks : List ℕ)
+  pub rows_picked : (others of_left of_right : List ℕ) → others ≡ both → of_left ≡ left_base base B x left L y right R z → of_right ≡ right_base base B x left L y right R z → (n : ℕ) → n ≡ count → (r : Option ℕ) (marks : List ℕ)
       → Picks (mark_at (drop (length R / width) others) of_left (take (length R / width) others) of_right) n r marks → Picks mark count r marks
   rows_picked others of_left of_right o a b n e r marks h =
       let size = tabled_length (match_of right R z left L y) (length R / width) in
@@ -152,7 +151,7 @@ module _ (base : Bytes) (B : List ℕ) (x : List Float) (left : Bytes) (L : List
   abbrev plan : RowPlan
   plan = pick_rows base B x left L y right R z
 
-  pub rows_clash : (order : List ℕ) (r : Picked) (marks : List ℕ) → Picks mark count r marks → r ≡ Clash → RowPlans plan order (Stopped 30) order
+  pub rows_clash : (order : List ℕ) (r : Option ℕ) (marks : List ℕ) → Picks mark count r marks → r ≡ None → RowPlans plan order (Err ChangedByBoth) order
   rows_clash order r marks h e = record { says = sym (ap (λ (b : Bool). cond b (stopped 30) (row_order base B x left L y right R z)) (clashing mark count r marks h e)); size = refl }
 
   module _ (k : ℕ) (marks : List ℕ) (h : Counted mark count k marks) (order part others used : List ℕ) (o : others ≡ both) (u : used ≡ tabled mark count) (few : k ≤ length order) (kept : length part ≡ length (take k order)) where
@@ -162,11 +161,11 @@ module _ (base : Bytes) (B : List ℕ) (x : List Float) (left : Bytes) (L : List
         ap order_rows (e ∙ (λ i. arranging.order_from (both_of left L right R (o i)) (n i) (u i) []))
         ∙ sym (ap (λ (b : Bool). cond b (stopped 30) (row_order base B x left L y right R z)) h.free)
 
-    pub rows_made : (r : Bool) → r ≡ true → arranging.ordered r part ≡ arranging.order_from (both_of left L right R others) (length (take k order)) used [] → RowPlans plan order (Made k) (part ++ drop k order)
+    pub rows_made : (r : Bool) → r ≡ true → arranging.ordered r part ≡ arranging.order_from (both_of left L right R others) (length (take k order)) used [] → RowPlans plan order (Ok k) (part ++ drop k order)
     rows_made r t e = record {
       says = ap ordered (take_at part (drop k order) k (kept ∙ length-take-le k order few)) ∙ sym (ap (λ (b : Bool). order_rows (arranging.ordered b part)) t) ∙ found r e;
       size = length_front order part k kept;
     }
 
-    pub rows_stuck : (r : Bool) → r ≡ false → arranging.ordered r part ≡ arranging.order_from (both_of left L right R others) (length (take k order)) used [] → RowPlans plan order (Stopped 31) (part ++ drop k order)
+    pub rows_stuck : (r : Bool) → r ≡ false → arranging.ordered r part ≡ arranging.order_from (both_of left L right R others) (length (take k order)) used [] → RowPlans plan order (Err NoOrder) (part ++ drop k order)
     rows_stuck r t e = record { says = sym (ap (λ (b : Bool). order_rows (arranging.ordered b part)) t) ∙ found r e; size = length_front order part k kept }

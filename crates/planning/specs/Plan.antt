@@ -1,33 +1,42 @@
 -- What planning answers, and what its answers mean.
-use Rattle.std.specs.Prelude.{List, ◌++◌, ◌≡◌, ℕ, ◌/◌, ◌≤◌, Float, length, take}
+use Rattle.std.specs.Prelude.{List, Result, Ok, Err, ◌++◌, ◌≡◌, ℕ, ◌/◌, ◌≤◌, Float, length, take}
 use Rattle.join_meaning.specs.Kept.{in_turn}
 use Rattle.join_meaning.specs.Rows.{RowPlan, ordered, stopped, used_rows}
 use Rattle.join_meaning.specs.Written.{Numbers}
 use Rattle.joining.specs.Outcome.{plan, planned, refused}
 use Rattle.joining.specs.declared.Scene.{Scene}
 use Rattle.joining.specs.declared.Scene.TheVariants as scene
+use Rattle.joining.specs.declared.SceneRefusal.{SceneRefusal}
 use Rattle.laws.specs.Bytes.{Bytes}
 use Rattle.matching.specs.Matching.{match_of}
 use Rattle.pair.specs.declared.Side.{Side}
 use Rattle.pair.specs.declared.Side.TheVariants as on
-use Rattle.planning.specs.declared.Order.{Order}
-use Rattle.planning.specs.declared.Order.TheVariants.{Made, Stopped}
-use Rattle.planning.specs.declared.Reply.{Reply}
-use Rattle.planning.specs.declared.Reply.TheVariants.{Ordered, Refused}
+use Rattle.scene.specs.Reason.{reason_number}
 use Rattle.scene.specs.Reading.{Entry, accepted, statements}
 use Rattle.scene.specs.Record.{real_image, settings_for, width}
 use Rattle.scene.specs.declared.Mode.{Mode}
+use Rattle.scene.specs.declared.Reason.{Reason}
 use Rattle.scene.specs.declared.Settings.{Settings}
 use Rattle.sides.specs.Read.{read}
 use Rattle.tabled.specs.Tabled.{tabled}
+
+-- how many numbers have their places; or which text is refused, why and where
+pub data Reply : Type 0 where
+  Ordered : (count : ℕ) → Reply
+  Refused : (scene : Scene) (reason place : ℕ) → Reply
+
+-- what the code answers
+abbrev pub reply_of : Result ℕ SceneRefusal → Reply
+reply_of (Ok k) = Ordered k
+reply_of (Err w) = Refused w.scene (reason_number w.refusal.reason) w.refusal.place
 
 abbrev pub side_scene : Side → Scene
 side_scene on.Left = scene.Left
 side_scene on.Right = scene.Right
 
-abbrev pub order_answer : Order → Reply
-order_answer (Made k) = Ordered k
-order_answer (Stopped n) = Refused scene.None n 0
+abbrev pub order_answer : Result ℕ Reason → Reply
+order_answer (Ok k) = Ordered k
+order_answer (Err r) = Refused scene.None (reason_number r) 0
 
 -- each hand's matches in the other's scene, right's first
 abbrev pub others_of : (left : Bytes) (L : List ℕ) (y : List Float) (right : Bytes) (R : List ℕ) (z : List Float) → List ℕ
@@ -41,11 +50,11 @@ pub record Rooms (L R order : List ℕ) : Type 0 where
   pub rights : length R / width ≤ 1024
   pub places : length order ≡ 2048
 
-abbrev pub row_answer : Order → (order : List ℕ) → RowPlan
-row_answer (Made k) order = ordered (take k order)
-row_answer (Stopped n) order = stopped n
+abbrev pub row_answer : Result ℕ Reason → (order : List ℕ) → RowPlan
+row_answer (Ok k) order = ordered (take k order)
+row_answer (Err r) order = stopped (reason_number r)
 
-pub record RowPlans (p : RowPlan) (order : List ℕ) (r : Order) (order' : List ℕ) : Type 0 where
+pub record RowPlans (p : RowPlan) (order : List ℕ) (r : Result ℕ Reason) (order' : List ℕ) : Type 0 where
   pub says : row_answer r order' ≡ p
   pub size : length order' ≡ length order
 

@@ -1,17 +1,14 @@
 -- The corners and edges as the code goes along them.
-use mathlib.Core.Bool.{Bool, true, false, cond, not}
+use mathlib.Core.Bool.{Bool, true, false, beq, cond, not}
 use mathlib.Core.List.{List, [], ◌∷◌}
 use mathlib.Core.Option.{none, some}
 use mathlib.Core.Path.{◌≡◌, refl, ap, sym, ◌∙◌}
 use Prim.Native.Nat.{ℕ, suc, ◌+◌, ◌*◌, ◌≤◌, ◌<◌}
-use native.Mathlib.Numerals.{add-one}
 use native.Mathlib.Omega.{arith}
 use lib.Ieee.{Float, nan}
-use lib.ListN.{length, drop, drop_of_length-le, get_or}
+use lib.ListN.{length, drop, get_or}
 use lib.Seq.{drop-cons}
-use Rattle.laws.specs.Runs.{all}
 use Rattle.steps.specs.declared.Vector.{Vector}
-use Rattle.edges.specs.Code.{when}
 use Rattle.edges.specs.Corners.{corners_of, edge, edges_from, edges_of}
 use Rattle.edges.specs.Crossing.{Crossed, crossed, inside, parity}
 use Rattle.edges.specs.Normal.{Axis, cross, normal_of, plus, sum_from}
@@ -74,6 +71,13 @@ parity_more false true (some b) = refl
 parity_more false false none = refl
 parity_more false false (some b) = refl
 
+-- one crossing more, or none
+pub flipped : (o c : Bool) → not (beq o c) ≡ cond c (not o) o
+flipped true true = refl
+flipped true false = refl
+flipped false true = refl
+flipped false false = refl
+
 parity_none : (q : Crossed) → parity q none ≡ none
 parity_none none = refl
 parity_none (some true) = refl
@@ -103,31 +107,16 @@ module _ (a : Axis) (p : Vector) (l : List Float) (first : Vector) where
       let r : Crossed = inside a p (edges_from first to (corners_of (drop ((i + 1) * 3) l))) in
       sym (parity_none (some odd)) ∙ ap (λ (z : Crossed). parity (some odd) (parity z r)) ec ∙ sym (ap (λ (cs : List Vector). parity (some odd) (inside a p (edges_from first from cs))) e) ∙ C
 
-  pub crosses_last : (from : Vector) (odd w c b : Bool) (i : ℕ) → Crosses from odd i → corners_of (drop (i * 3) l) ≡ [] → when w c ≡ crossed a p (edge from first) → b ≡ cond c (not odd) odd → when w b ≡ inside a p (edges_of (corners_of l))
+  pub crosses_last : (from : Vector) (odd c b : Bool) (i : ℕ) → Crosses from odd i → corners_of (drop (i * 3) l) ≡ [] → some c ≡ crossed a p (edge from first) → b ≡ cond c (not odd) odd → some b ≡ inside a p (edges_of (corners_of l))
   unfolding edges_from inside
-  crosses_last from odd w c b i C e ec eb = go w ∙ ap (λ (z : Crossed). parity (some odd) (parity z (some false))) ec ∙ sym (ap (λ (cs : List Vector). parity (some odd) (inside a p (edges_from first from cs))) e) ∙ C
+  crosses_last from odd c b i C e ec eb = ap some eb ∙ last odd c ∙ ap (λ (z : Crossed). parity (some odd) (parity z (some false))) ec ∙ sym (ap (λ (cs : List Vector). parity (some odd) (inside a p (edges_from first from cs))) e) ∙ C
     where
-      go : (w : Bool) → when w b ≡ parity (some odd) (parity (when w c) (some false))
-      go false = sym (parity_none (some odd))
-      go true = ap some eb ∙ last odd c
-        where
-          last : (o c : Bool) → ◌≡◌ {A = Crossed} (some (cond c (not o) o)) (parity (some o) (parity (some c) (some false)))
-          last true true = refl
-          last true false = refl
-          last false true = refl
-          last false false = refl
+      last : (o c : Bool) → ◌≡◌ {A = Crossed} (some (cond c (not o) o)) (parity (some o) (parity (some c) (some false)))
+      last true true = refl
+      last true false = refl
+      last false true = refl
+      last false false = refl
 
--- ---- a test of all reals
-
-module _ (test : Float → Bool) (l : List Float) (i : ℕ) where
-  pub all_end : length l ≤ i → true ≡ all test (drop i l)
-  unfolding all
-  all_end h = rw (drop_of_length-le l h)
-
-  pub all_stop : i < length l → test (get_or l i nan) ≡ false → false ≡ all test (drop i l)
-  unfolding all
-  all_stop h e = rw (drop-cons l i nan h, e)
-
-  pub all_on : i < length l → test (get_or l i nan) ≡ true → all test (drop (i + 1) l) ≡ all test (drop i l)
-  unfolding all
-  all_on h e = rw (add-one, drop-cons l i nan h, e)
+  pub crosses_last_not : (from : Vector) (odd : Bool) (i : ℕ) → Crosses from odd i → corners_of (drop (i * 3) l) ≡ [] → none ≡ crossed a p (edge from first) → none ≡ inside a p (edges_of (corners_of l))
+  unfolding edges_from inside
+  crosses_last_not from odd i C e ec = sym (parity_none (some odd)) ∙ ap (λ (z : Crossed). parity (some odd) (parity z (some false))) ec ∙ sym (ap (λ (cs : List Vector). parity (some odd) (inside a p (edges_from first from cs))) e) ∙ C

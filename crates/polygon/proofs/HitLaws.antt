@@ -19,9 +19,8 @@ use Rattle.laws.specs.Runs.{all}
 use Rattle.steps.specs.Step.{+0}
 use Rattle.steps.specs.Vectors.{along, finite_vector}
 use Rattle.steps.specs.declared.Vector.{Vector}
-use Rattle.edges.specs.Code.{when}
 use Rattle.edges.specs.Corners.{Edge, corners_of, edges_of}
-use Rattle.edges.specs.Crossing.{inside}
+use Rattle.edges.specs.Crossing.{Crossed, inside}
 use Rattle.edges.specs.Normal.{dropped, is_zero, normal_of}
 use Rattle.polygon.specs.Polygon.{at_crossings, on_corners, on_polygon, polygon_hit}
 
@@ -35,8 +34,8 @@ module _ (ray : Ray) (n : Vector) (es : List Edge) (t : Float) (p : Vector) (q :
   pub point_20 : not b ≡ true → refused 20 ≡ on_polygon ray n es t
   point_20 h = sym (at_point ∙ ap (λ (z : Bool). cond z (refused 20) (at_crossings t (inside (dropped n) p es))) h)
 
-  pub point_on : not b ≡ false → (w o : Bool) → when w o ≡ inside (dropped n) p es → at_crossings t (when w o) ≡ on_polygon ray n es t
-  point_on h w o e = ap (at_crossings t) e ∙ sym (at_point ∙ ap (λ (z : Bool). cond z (refused 20) (at_crossings t (inside (dropped n) p es))) h)
+  pub point_on : not b ≡ false → (q : Crossed) → q ≡ inside (dropped n) p es → at_crossings t q ≡ on_polygon ray n es t
+  point_on h q e = ap (at_crossings t) e ∙ sym (at_point ∙ ap (λ (z : Bool). cond z (refused 20) (at_crossings t (inside (dropped n) p es))) h)
 
 -- ---- from the corners on
 

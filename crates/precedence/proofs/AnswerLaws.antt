@@ -3,7 +3,7 @@ use mathlib.Core.Bool.{Bool, true, false, not, cond, ◌&&◌}
 use mathlib.Core.List.{List}
 use mathlib.Core.Logic.{◌⊎◌, inl, inr}
 use mathlib.Core.Path.{◌≡◌, refl, ap, sym, ◌∙◌}
-use Prim.Native.Nat.{ℕ, zero, suc, ◌+◌, ◌*◌, ◌≤◌, ◌<◌}
+use Prim.Native.Nat.{ℕ, zero, suc, ◌+◌, ◌*◌, ◌≤◌, ◌<◌, min, max}
 use native.Mathlib.Nat.{min-eq_left, min-eq_right, max-eq_left, max-eq_right}
 use native.Mathlib.Numerals.{add-one}
 use native.Mathlib.Omega.{arith}
@@ -115,19 +115,15 @@ module _ (text : Bytes) (T : List ℕ) (count n m r : ℕ) (e : r ≡ refusal_of
         go true false p q f g h k = absurd (eqb-false b 0 g k)
         go false y p q f g h k = absurd (eqb-false a 0 f k)
 
-    pub ordered_rising : n < m → Ordered count n m
-    ordered_rising l = let f = number_fits T count m asked.1 in record { rises = l; within = f.1; most = f.0 }
+    pub ordered_both : {x y : ℕ} → x ≡ min n m → y ≡ max n m → Ordered count x y
+    ordered_both p q =
+        let f = number_fits T count n asked.0 in
+        let g = number_fits T count m asked.1 in
+        record { rises = omega (arith, p, q, asked.2); within = omega (arith, q, f.1, g.1); most = f.0 }
 
-    pub ordered_falling : m ≤ n → Ordered count m n
-    ordered_falling l = let f = number_fits T count n asked.0 in record { rises = omega (arith, asked.2); within = f.1; most = f.0 }
-
-    pub order_rising : n < m → (o : Order) → o ≡ between text T count n m → o ≡ order_of text T count n m
+    pub order_asked : {x y : ℕ} {o : Order} → x ≡ min n m → y ≡ max n m → o ≡ between text T count x y → o ≡ order_of text T count n m
     unfolding order_of
-    order_rising l o f = f ∙ rw (← e, eq-eqb r 0 z) (λ i. between text T count (sym (min-eq_left {n = n} {m = m} (omega arith)) i) (sym (max-eq_right {n = n} {m = m} (omega arith)) i))
-
-    pub order_falling : m ≤ n → (o : Order) → o ≡ between text T count m n → o ≡ order_of text T count n m
-    unfolding order_of
-    order_falling l o f = f ∙ rw (← e, eq-eqb r 0 z) (λ i. between text T count (sym (min-eq_right l) i) (sym (max-eq_left l) i))
+    order_asked p q f = f ∙ (λ i. between text T count (p i) (q i)) ∙ rw (← e, eq-eqb r 0 z) refl
 
 -- ---- the first link, and the name that binds
 

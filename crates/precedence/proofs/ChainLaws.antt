@@ -13,9 +13,9 @@ use Rattle.holding.specs.Shortest.{chain_length, first_link, first_on, lengths, 
 use Rattle.laws.proofs.BoolLaws.{cond_elim}
 use Rattle.precedence.specs.Code.{Filled, last}
 
--- what stands from the place after j on
-rest : (L : List ℕ) (j : ℕ) → j + 1 < length L → drop (j + 1) L ≡ get_or L (j + 1) 0 ∷ drop (j + 1 + 1) L
-rest L j l = drop-cons L (j + 1) 0 l ∙ ap (λ (i : ℕ). get_or L (j + 1) 0 ∷ drop i L) (sym (add-one (j + 1)))
+-- what stands from place j on
+rest : (L : List ℕ) (j : ℕ) → j < length L → drop j L ≡ get_or L j 0 ∷ drop (j + 1) L
+rest L j l = drop-cons L j 0 l ∙ ap (λ (i : ℕ). get_or L j 0 ∷ drop i L) (sym (add-one j))
 
 -- a place of a table's front
 pub in_front : (xs : List ℕ) (n i : ℕ) → n ≤ length xs → i < n → i < length (take n xs)
@@ -25,21 +25,21 @@ module _ (tied : ℕ → ℕ → Bool) where
   -- ---- the least of the chains behind
 
   module _ (L : List ℕ) (k j best : ℕ) where
-    pub nearest_all : length L ≤ j + 1 → best ≡ nearest tied k (j + 1) (drop (j + 1) L) best
+    pub nearest_all : length L ≤ j → best ≡ nearest tied k j (drop j L) best
     unfolding nearest
-    nearest_all l = sym (ap (λ (ds : List ℕ). nearest tied k (j + 1) ds best) (drop_of_length-le L {i = j + 1} l))
+    nearest_all l = sym (ap (λ (ds : List ℕ). nearest tied k j ds best) (drop_of_length-le L {i = j} l))
 
-    module _ (l : j + 1 < length L) where
-      nearest_turn : (b : Bool) → (not (eqb (get_or L (j + 1) 0) 0) && (eqb best 0 || ltb (get_or L (j + 1) 0) best) && tied k (j + 1)) ≡ b → nearest tied k (j + 1 + 1) (drop (j + 1 + 1) L) (cond b (get_or L (j + 1) 0) best) ≡ nearest tied k (j + 1) (drop (j + 1) L) best
+    module _ (l : j < length L) where
+      nearest_turn : (b : Bool) → (not (eqb (get_or L j 0) 0) && (eqb best 0 || ltb (get_or L j 0) best) && tied k j) ≡ b → nearest tied k (j + 1) (drop (j + 1) L) (cond b (get_or L j 0) best) ≡ nearest tied k j (drop j L) best
       unfolding nearest
       nearest_turn b e =
-          (λ i. nearest tied k (add-one (j + 1) i) (drop (j + 1 + 1) L) (cond (sym e i) (get_or L (j + 1) 0) best))
-          ∙ ap (λ (ds : List ℕ). nearest tied k (j + 1) ds best) (sym (rest L j l))
+          (λ i. nearest tied k (add-one j i) (drop (j + 1) L) (cond (sym e i) (get_or L j 0) best))
+          ∙ ap (λ (ds : List ℕ). nearest tied k j ds best) (sym (rest L j l))
 
-      pub nearest_past : (not (eqb (get_or L (j + 1) 0) 0) && (eqb best 0 || ltb (get_or L (j + 1) 0) best)) ≡ false → nearest tied k (j + 1 + 1) (drop (j + 1 + 1) L) best ≡ nearest tied k (j + 1) (drop (j + 1) L) best
-      nearest_past e = nearest_turn false (ap (λ (b : Bool). b && tied k (j + 1)) e)
+      pub nearest_past : (not (eqb (get_or L j 0) 0) && (eqb best 0 || ltb (get_or L j 0) best)) ≡ false → nearest tied k (j + 1) (drop (j + 1) L) best ≡ nearest tied k j (drop j L) best
+      nearest_past e = nearest_turn false (ap (λ (b : Bool). b && tied k j) e)
 
-      pub nearest_more : (b : Bool) → (not (eqb (get_or L (j + 1) 0) 0) && (eqb best 0 || ltb (get_or L (j + 1) 0) best)) ≡ true → tied k (j + 1) ≡ b → nearest tied k (j + 1 + 1) (drop (j + 1 + 1) L) (cond b (get_or L (j + 1) 0) best) ≡ nearest tied k (j + 1) (drop (j + 1) L) best
+      pub nearest_more : (b : Bool) → (not (eqb (get_or L j 0) 0) && (eqb best 0 || ltb (get_or L j 0) best)) ≡ true → tied k j ≡ b → nearest tied k (j + 1) (drop (j + 1) L) (cond b (get_or L j 0) best) ≡ nearest tied k j (drop j L) best
       nearest_more b e f = nearest_turn b (λ i. e i && f i)
 
   -- ---- the table of chains, from its end
@@ -118,22 +118,22 @@ module _ (tied : ℕ → ℕ → Bool) where
   first_none n long j (d ∷ ds) z = rw (ne_eqb (suc d) long (λ e. omega arith)) (first_none n long (suc j) ds z)
 
   module _ (L : List ℕ) (n long j : ℕ) where
-    pub first_all : length L ≤ j + 1 → 0 ≡ first_on tied n long (j + 1) (drop (j + 1) L)
+    pub first_all : length L ≤ j → 0 ≡ first_on tied n long j (drop j L)
     unfolding first_on
-    first_all l = sym (ap (first_on tied n long (j + 1)) (drop_of_length-le L {i = j + 1} l))
+    first_all l = sym (ap (first_on tied n long j) (drop_of_length-le L {i = j} l))
 
-    module _ (l : j + 1 < length L) where
-      first_turn : (b : Bool) → (eqb (suc (get_or L (j + 1) 0)) long && tied n (j + 1)) ≡ b → cond b (j + 1) (first_on tied n long (j + 1 + 1) (drop (j + 1 + 1) L)) ≡ first_on tied n long (j + 1) (drop (j + 1) L)
+    module _ (l : j < length L) where
+      first_turn : (b : Bool) → (eqb (suc (get_or L j 0)) long && tied n j) ≡ b → cond b j (first_on tied n long (j + 1) (drop (j + 1) L)) ≡ first_on tied n long j (drop j L)
       unfolding first_on
       first_turn b e =
-          (λ i. cond (sym e i) (j + 1) (first_on tied n long (add-one (j + 1) i) (drop (j + 1 + 1) L)))
-          ∙ ap (first_on tied n long (j + 1)) (sym (rest L j l))
+          (λ i. cond (sym e i) j (first_on tied n long (add-one j i) (drop (j + 1) L)))
+          ∙ ap (first_on tied n long j) (sym (rest L j l))
 
-      pub first_past : (get_or L (j + 1) 0 ≡ long - 1 → ⊥) → first_on tied n long (j + 1 + 1) (drop (j + 1 + 1) L) ≡ first_on tied n long (j + 1) (drop (j + 1) L)
-      first_past h = first_turn false (ap (λ (b : Bool). b && tied n (j + 1)) (ne_eqb (suc (get_or L (j + 1) 0)) long (λ e. h (omega arith))))
+      pub first_past : (get_or L j 0 ≡ long - 1 → ⊥) → first_on tied n long (j + 1) (drop (j + 1) L) ≡ first_on tied n long j (drop j L)
+      first_past h = first_turn false (ap (λ (b : Bool). b && tied n j) (ne_eqb (suc (get_or L j 0)) long (λ e. h (omega arith))))
 
-      pub first_more : (long ≡ 0 → ⊥) → get_or L (j + 1) 0 ≡ long - 1 → (b : Bool) → tied n (j + 1) ≡ b → cond b (j + 1) (first_on tied n long (j + 1 + 1) (drop (j + 1 + 1) L)) ≡ first_on tied n long (j + 1) (drop (j + 1) L)
-      first_more z h b e = first_turn b (λ i. eq-eqb (suc (get_or L (j + 1) 0)) long (omega arith) i && e i)
+      pub first_more : (long ≡ 0 → ⊥) → get_or L j 0 ≡ long - 1 → (b : Bool) → tied n j ≡ b → cond b j (first_on tied n long (j + 1) (drop (j + 1) L)) ≡ first_on tied n long j (drop j L)
+      first_more z h b e = first_turn b (λ i. eq-eqb (suc (get_or L j 0)) long (omega arith) i && e i)
 
   -- from a whole table, read back
   pub first_link_is : (L M : List ℕ) (n m k : ℕ) → Filled tied L n → length L ≡ m + 1 → M ≡ L → n < m → k ≡ first_on tied n (get_or M n 0) (n + 1) (drop (n + 1) M) → k ≡ first_link tied n m

@@ -6,7 +6,9 @@ ghost use Rattle.holding.specs.Shortest.{first_link, first_on, nearest};
 ghost use Rattle.ties.specs.Ties.{bound_rows};
 ghost use Rattle.precedence.specs.Answer.{all_fit, between, binder, by_link, order_of, refusal_of, row_fits};
 ghost use Rattle.precedence.specs.Code.{Filled, Ordered};
+ghost use Rattle.table.specs.Question.{refusal_number};
 
+use scene::Reason;
 use table::MOST_RECORDS;
 
 // A table of chains has a place for each number from 0 to the last entry's: how many entries a shortest chain from there to the last
@@ -36,35 +38,33 @@ fn row_fits(text: &[u8], records: &[u32], n: usize) -> bool
 fn all_fit(text: &[u8], records: &[u32], count: usize) -> bool
     ensures { result ≡ all_fit text.now records.now count }
 {
-    let mut n = 0;
-    while n < count {
-        n += 1;
-        if !row_fits(text, records, n) {
+    for n in 0..count {
+        if !row_fits(text, records, n + 1) {
             return false;
         }
     }
     true
 }
 
-// Why two entries cannot be asked about; 0 if they can.
-fn refusal(text: &[u8], records: &[u32], count: usize, first: usize, second: usize) -> u32
-    ensures { result ≡ refusal_of text.now records.now count first second }
+// Whether two entries can be asked about.
+fn refusal(
+    text: &[u8],
+    records: &[u32],
+    count: usize,
+    first: usize,
+    second: usize,
+) -> Result<(), Reason>
+    ensures { refusal_number result ≡ refusal_of text.now records.now count first second }
 {
-    let reason = table::number_refusal(records, count, first);
-    if reason != 0 {
-        return reason;
-    }
-    let other = table::number_refusal(records, count, second);
-    if other != 0 {
-        return other;
-    }
+    table::number_refusal(records, count, first)?;
+    table::number_refusal(records, count, second)?;
     if first == second {
-        return 17;
+        return Err(Reason::NoSuchPrimitive);
     }
     if all_fit(text, records, count) {
-        return 0;
+        return Ok(());
     }
-    18
+    Err(Reason::BadTable)
 }
 
 // Of the entries below number k that it is bound to, the least that a chain has; 0 for none.
@@ -73,15 +73,16 @@ fn nearest(records: &[u32], classes: &[usize], lengths: &[usize], k: usize) -> u
     ensures { result ≡ nearest (bound_rows records.now classes.now) k (k + 1) (drop (k + 1) lengths.now) 0 }
 {
     let mut best = 0;
-    let mut j = k;
-    while j + 1 < lengths.len() {
-        j += 1;
+    for j in k + 1..lengths.len() {
         let d = lengths[j];
-        if (d != 0) & ((best == 0) | (d < best)) {
-            if ties::bound(records, classes, k, j) {
-                best = d;
-            }
+        let nearer = (d != 0) & ((best == 0) | (d < best));
+        if !nearer {
+            continue;
         }
+        if !ties::bound(records, classes, k, j) {
+            continue;
+        }
+        best = d;
     }
     best
 }
@@ -91,10 +92,9 @@ fn fill(records: &[u32], classes: &[usize], lengths: &mut [usize], first: usize)
     requires { first < length lengths.old }
     ensures { Filled (bound_rows records.now classes.now) lengths.new first }
 {
-    let mut k = lengths.len() - 1;
-    lengths[k] = 1;
-    while first < k {
-        k -= 1;
+    let last = lengths.len() - 1;
+    lengths[last] = 1;
+    for k in (first..last).rev() {
         let behind = nearest(records, classes, lengths, k);
         if behind == 0 {
             lengths[k] = 0;
@@ -113,13 +113,12 @@ fn first_link(records: &[u32], classes: &[usize], lengths: &[usize], first: usiz
     if long == 0 {
         return 0;
     }
-    let mut j = first;
-    while j + 1 < lengths.len() {
-        j += 1;
-        if lengths[j] == long - 1 {
-            if ties::bound(records, classes, first, j) {
-                return j;
-            }
+    for j in first + 1..lengths.len() {
+        if lengths[j] != long - 1 {
+            continue;
+        }
+        if ties::bound(records, classes, first, j) {
+            return j;
         }
     }
     0
@@ -164,12 +163,8 @@ fn between(text: &[u8], records: &[u32], count: usize, first: usize, last: usize
 pub fn mattered(text: &[u8], records: &[u32], count: usize, first: usize, second: usize) -> Order
     ensures { result ≡ order_of text.now records.now count first second }
 {
-    let reason = refusal(text, records, count, first, second);
-    if reason != 0 {
-        return Order::Refused(reason);
+    match refusal(text, records, count, first, second) {
+        Ok(()) => between(text, records, count, first.min(second), first.max(second)),
+        Err(reason) => Order::Refused(reason.number()),
     }
-    if first < second {
-        return between(text, records, count, first, second);
-    }
-    between(text, records, count, second, first)
 }

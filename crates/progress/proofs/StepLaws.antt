@@ -35,9 +35,9 @@ use Rattle.statement.specs.States.{between, opened}
 use Rattle.statement.specs.declared.Draft.{Draft}
 use Rattle.statement.specs.declared.Seen.{Seen}
 use Rattle.statement.specs.declared.State.{State}
-use Rattle.statement.specs.declared.Step.{Step}
+use Rattle.statement.specs.Step.{Step}
 use Rattle.statement.specs.declared.Phase.TheVariants as is
-use Rattle.statement.specs.declared.Step.TheVariants as to
+use Rattle.statement.specs.Step as to
 
 numbers_snoc : (rs : List Literal) (w : Bytes) (x : Float) → numbers (rs ++ literal w x ∷ []) ≡ numbers rs ++ x ∷ []
 numbers_snoc [] w x = refl

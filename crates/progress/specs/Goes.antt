@@ -11,8 +11,8 @@ use Rattle.scene.specs.Reading.{statements, settle, Entry, Places, test, stopped
 use Rattle.scene.specs.Record.{record_of}
 use Rattle.scene.specs.declared.Settings.{Settings}
 use Rattle.statement.specs.declared.State.{State}
-use Rattle.statement.specs.declared.Step.{Step}
-use Rattle.statement.specs.declared.Step.TheVariants as step
+use Rattle.statement.specs.Step.{Step}
+use Rattle.statement.specs.Step as step
 use Rattle.scene.specs.Reading as reading
 
 -- the statement goes on, with the reals xs more

@@ -13,9 +13,9 @@ use Rattle.scene.specs.Record.{records, filled, flat, real_table, settings_for}
 use Rattle.scene.specs.declared.Settings.{Settings}
 use Rattle.statement.specs.States.{opening_of}
 use Rattle.statement.specs.declared.State.{State}
-use Rattle.statement.specs.declared.Step.{Step}
+use Rattle.statement.specs.Step.{Step}
 use Rattle.statement.specs.declared.Opening.TheVariants as opening
-use Rattle.statement.specs.declared.Step.TheVariants as step
+use Rattle.statement.specs.Step as step
 
 -- done has been read and rest is left
 pub record Inv (text : Bytes) (table : List ℕ) (reals : List Float) (index : List ℕ) (room : Settings) (s : State) : Type 0 where

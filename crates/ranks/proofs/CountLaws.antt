@@ -1,16 +1,17 @@
 -- Counting along an order, entry by entry.
 use mathlib.Core.Bool.{Bool, true, false, cond}
-use mathlib.Core.List.{List, ◌∷◌}
+use mathlib.Core.List.{List, ◌∷◌, ◌++◌}
 use mathlib.Core.Path.{◌≡◌, refl, ap, sym, ◌∙◌}
-use Prim.Native.Nat.{ℕ, zero, suc, ◌+◌, ◌-◌, ◌<◌, ◌≤◌, min}
+use Prim.Native.Nat.{ℕ, zero, suc, ◌+◌, ◌-◌, ◌/◌, ◌<◌, ◌≤◌, min}
 use native.Mathlib.Numerals.{add-one}
 use native.Mathlib.Omega.{arith}
 use lib.ListN.{length, get_or, set, take, drop, replicate, length-take, drop_of_length-le}
 use lib.Seq.{drop-cons, get_or-take, set_out}
 use Rattle.laws.specs.Bytes.{Bytes, same}
-use Rattle.scene.specs.Record.{name_in}
+use Rattle.scene.specs.Record.{filled, name_in}
+use Rattle.name_order.specs.Sort.{earlier, room, sorted}
 use Rattle.ranks.proofs.RankLaws.{entry_length}
-use Rattle.ranks.specs.Rank.{rank_behind, with_entry, ranks_from, ranks_of}
+use Rattle.ranks.specs.Rank.{rank_behind, with_entry, ranks_from, ranks_of, order_table}
 
 -- ---- an entry put
 
@@ -75,3 +76,14 @@ module _ (text : Bytes) (records : List ℕ) where
     pub ranking_all : i ≡ min 1024 (length order) → t ≡ ranks_of text records order size
     unfolding ranks_from
     ranking_all e = ap (λ (xs : List ℕ). ranks_from text records last nth xs t) (sym (drop_of_length-le (take 1024 order) {i = i} (omega (arith, length-take 1024 order)))) ∙ m.done
+
+-- ---- an order in the front half of a table, and the ranks in the rest of it
+
+module _ (text : Bytes) (records : List ℕ) where
+  pub table_ordered : (size scratch front back : ℕ) (order nths : List ℕ) → front ≡ size / 2 → back ≡ size - size / 2
+      → order ≡ filled 0 front (sorted (earlier text records) (room (length records) front scratch)) → nths ≡ ranks_of text records order back → order ++ nths ≡ order_table text records size scratch
+  unfolding order_table
+  table_ordered size scratch front back order nths f b e n =
+      let o = e ∙ ap (λ (m : ℕ). filled 0 m (sorted (earlier text records) (room (length records) m scratch))) f in
+      let r : nths ≡ ranks_of text records (filled 0 (size / 2) (sorted (earlier text records) (room (length records) (size / 2) scratch))) (size - size / 2) = n ∙ (λ i. ranks_of text records (o i) (b i)) in
+      λ i. o i ++ r i

@@ -1,3 +1,2 @@
 pub mod RankLaws
 pub mod CountLaws
-pub mod HalfLaws

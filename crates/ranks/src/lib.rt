@@ -1,8 +1,8 @@
 // Which definition of its name each record of a scene is, by the order of the records.
 #![tactic(auto)]
 
-ghost use Rattle.std.specs.Prelude.{◌≡◌, ◌-◌, ◌/◌, ◌<◌, length, replicate, take};
-ghost use Rattle.ranks.specs.Rank.{order_table, rank_behind, ranks_of, with_entry, with_ranks};
+ghost use Rattle.std.specs.Prelude.{◌≡◌, ◌<◌, length, replicate};
+ghost use Rattle.ranks.specs.Rank.{order_table, rank_behind, ranks_of, with_entry};
 
 use table::MOST_RECORDS;
 
@@ -37,36 +37,13 @@ fn put(table: &mut [u32], n: u32, value: u32)
 pub fn ranks(text: &[u8], records: &[u32], order: &[u32], nths: &mut [u32])
     ensures { nths.new ≡ ranks_of text.now records.now order.now (length nths.old) }
 {
-    table::clear_numbers(nths);
-    let count = lexer::least(MOST_RECORDS, order.len());
+    nths.fill(0);
     let mut last = 0;
     let mut nth = 0;
-    let mut i = 0;
-    while i < count {
-        let n = order[i];
+    for &n in &order[..MOST_RECORDS.min(order.len())] {
         nth = rank(text, records, last, nth, n);
         put(nths, n, nth);
         last = n;
-        i += 1;
-    }
-}
-
-// The same for an order that is a table's first half: the ranks go into the rest of it.
-fn rank_half(text: &[u8], records: &[u32], table: &mut [u32])
-    ensures { table.new ≡ with_ranks text.now records.now (take (length table.old / 2) table.old) (length table.old - length table.old / 2) }
-{
-    let half = table.len() / 2;
-    table::clear_numbers(&mut table[half..]);
-    let count = lexer::least(MOST_RECORDS, half);
-    let mut previous = 0;
-    let mut nth = 0;
-    let mut i = 0;
-    while i < count {
-        let n = table[i];
-        nth = rank(text, records, previous, nth, n);
-        put(&mut table[half..], n, nth);
-        previous = n;
-        i += 1;
     }
 }
 
@@ -76,6 +53,7 @@ pub fn order_names(text: &[u8], records: &[u32], table: &mut [u32], scratch: &mu
     ensures scratch_after { scratch.new ≡ replicate (length scratch.old) 0 }
 {
     let half = table.len() / 2;
-    name_order::order(text, records, &mut table[..half], scratch);
-    rank_half(text, records, table);
+    let (order, nths) = table.split_at_mut(half);
+    name_order::order(text, records, order, scratch);
+    ranks(text, records, order, nths);
 }

@@ -3,11 +3,12 @@
 // kinds that end in _above have it as the last number, and those in _default name none.
 #![tactic(auto)]
 
-ghost use Rattle.std.specs.Prelude.{◌+◌, ◌≤◌};
+ghost use Rattle.std.specs.Prelude.{◌≤◌, IfSome};
 
 use fresnel::Reflection;
-use hits::{Hit, Ray, Ring, Sphere};
-use pane::{Interreflection, Transmitted};
+use hits::{Ray, Ring, Sphere};
+use pane::Interreflection;
+use scene::Reason;
 use std::io::Read;
 use steps::Vector;
 
@@ -17,338 +18,234 @@ const NUMBERS: usize = 127;
 // Enough for it, whose line has 2,172 bytes.
 const LINE: usize = 2304;
 
-#[derive(Clone, Copy)]
-enum Pattern {
-    Bits(u64),
-    Malformed,
-}
-
-// What a digit in lower case counts, or 16 for any other byte.
-fn hex_digit(b: u8) -> u8 {
+// What a digit in lower case counts.
+fn hex_digit(b: u8) -> Option<u8> {
     match b {
-        b'0'..=b'9' => b - 48,
-        b'a'..=b'f' => b - 87,
-        _ => 16,
+        b'0'..=b'9' => Some(b - b'0'),
+        b'a'..=b'f' => Some(b - b'a' + 10),
+        _ => None,
     }
 }
 
-fn pattern_of(word: &[u8]) -> Pattern {
+// Digit by digit: `u64::from_str_radix` would take upper case, a sign and fewer digits too.
+fn bits_of(word: &[u8]) -> Option<u64> {
     if word.len() != 16 {
-        return Pattern::Malformed;
+        return None;
     }
     let mut bits: u64 = 0;
     for b in word {
-        let digit = hex_digit(*b);
-        if digit == 16 {
-            return Pattern::Malformed;
-        }
-        bits = bits << 4 | digit as u64;
+        bits = bits << 4 | hex_digit(*b)? as u64;
     }
-    Pattern::Bits(bits)
+    Some(bits)
 }
 
 // A NaN has many patterns, and from_bits takes none of them.
 fn double_of(bits: u64) -> f64 {
     if 0x7ff0000000000000 < bits % 0x8000000000000000 {
-        return 0.0 / 0.0;
+        return f64::NAN;
     }
     f64::from_bits(bits)
 }
 
-// Reads the words from `at` on as doubles, and how many they are: more than there is room for where one is malformed.
-fn read_numbers(line: &[u8], at: usize, numbers: &mut [f64; NUMBERS]) -> usize {
+// Reads the words from `at` on as doubles, and how many they are; none where one is malformed or there is no room for all.
+fn read_numbers(line: &[u8], at: usize, numbers: &mut [f64; NUMBERS]) -> Option<usize>
+    ensures { IfSome result (λ count. count ≤ 127) }
+{
     let mut end = at;
-    for count in 0..NUMBERS {
-        let word = lexer::next_word(line, end);
-        if word.len == 0 {
-            return count;
+    for (count, number) in numbers.iter_mut().enumerate() {
+        let word = lexer::word_bytes(line, end);
+        if word.is_empty() {
+            return Some(count);
         }
-        match pattern_of(lexer::part(line, word.place, word.len)) {
-            Pattern::Bits(bits) => {
-                numbers[count] = double_of(bits);
-            }
-            Pattern::Malformed => {
-                return NUMBERS + 1;
-            }
+        *number = double_of(bits_of(word)?);
+        end = lexer::past_word(line, end);
+    }
+    lexer::word_bytes(line, end).is_empty().then_some(NUMBERS)
+}
+
+// A word, and the bits of the doubles behind it, each after a blank. A NaN has none of its own.
+fn print_values(rt: &impl Print, word: &str, values: &[f64]) {
+    let _ = print!(rt; "{word}");
+    for x in values {
+        if x.is_nan() {
+            let _ = print!(rt; " nan");
+        } else {
+            let bits = x.to_bits();
+            let _ = print!(rt; " {bits:016x}");
         }
-        end = lexer::word_end(line, word.place);
     }
-    if lexer::next_word(line, end).len == 0 {
-        return NUMBERS;
-    }
-    NUMBERS + 1
+    let _ = print!(rt; "\n");
 }
 
-fn vector(numbers: &[f64; NUMBERS], from: usize) -> Vector
-    requires { from + 3 ≤ 127 }
-{
-    Vector {
-        x: numbers[from],
-        y: numbers[from + 1],
-        z: numbers[from + 2],
-    }
+fn print_refusal(rt: &impl Print, reason: Reason) {
+    let _ = println!(rt; "refused {}", reason.number());
 }
 
-fn ray(numbers: &[f64; NUMBERS]) -> Ray {
-    Ray {
-        origin: vector(numbers, 0),
-        direction: vector(numbers, 3),
-    }
-}
-
-fn sphere(numbers: &[f64; NUMBERS]) -> Sphere {
-    Sphere {
-        centre: vector(numbers, 6),
-        radius: numbers[9],
-    }
-}
-
-fn ring(numbers: &[f64; NUMBERS]) -> Ring {
-    Ring {
-        centre: vector(numbers, 6),
-        normal: vector(numbers, 9),
-        inner: numbers[12],
-        outer: numbers[13],
-    }
-}
-
-fn print(rt: &impl Print, text: &[u8]) {
-    let _ = rt.write_all(text);
-}
-
-// A double's bits after a blank. A NaN has none of its own.
-fn print_double(rt: &impl Print, x: f64) {
-    if x == x {
-        let bits = f64::to_bits(x);
-        let _ = print!(rt; " {bits:016x}");
-    } else {
-        print(rt, b" nan");
-    }
-}
-
-fn print_refusal(rt: &impl Print, reason: u32) {
-    let _ = print!(rt; "refused {reason}");
-}
-
-fn print_hit(rt: &impl Print, hit: Hit) {
+fn print_hit(rt: &impl Print, hit: Result<Option<f64>, Reason>) {
     match hit {
-        Hit::At(t) => {
-            print(rt, b"at");
-            print_double(rt, t);
-        }
-        Hit::Miss => print(rt, b"miss"),
-        Hit::Refused(reason) => print_refusal(rt, reason),
+        Ok(Some(t)) => print_values(rt, "at", &[t]),
+        Ok(None) => print_values(rt, "miss", &[]),
+        Err(reason) => print_refusal(rt, reason),
     }
 }
 
-fn print_reflection(rt: &impl Print, reflection: Reflection) {
+fn print_reflection(rt: &impl Print, reflection: Result<Reflection, Reason>) {
     match reflection {
-        Reflection::Coefficients(te, tm, f) => {
-            print(rt, b"coefficients");
-            print_double(rt, te);
-            print_double(rt, tm);
-            print_double(rt, f);
-        }
-        Reflection::Total => print(rt, b"total"),
-        Reflection::Refused(reason) => print_refusal(rt, reason),
-    }
-}
-
-// Answers the cases of a sphere, and says whether it is one; so with the other shapes.
-fn print_sphere(rt: &impl Print, kind: &[u8], numbers: &[f64; NUMBERS], count: usize) -> bool {
-    if (count == 10) & lexer::same(kind, b"sphere") {
-        print_hit(
+        Ok(Reflection::Coefficients { te, tm, f }) => print_values(
             rt,
-            hits::sphere_hit_above(ray(numbers), sphere(numbers), 0.0),
-        );
-        return true;
+            "coefficients",
+            &[te, tm, f],
+        ),
+        Ok(Reflection::Total) => print_values(rt, "total", &[]),
+        Err(reason) => print_refusal(rt, reason),
     }
-    if (count == 11) & lexer::same(kind, b"sphere_above") {
-        let least = numbers[10];
-        print_hit(
-            rt,
-            hits::sphere_hit_above(ray(numbers), sphere(numbers), least),
-        );
-        return true;
-    }
-    if (count == 10) & lexer::same(kind, b"sphere_default") {
-        print_hit(rt, hits::sphere_hit(ray(numbers), sphere(numbers)));
-        return true;
-    }
-    false
 }
 
-fn print_ring(rt: &impl Print, kind: &[u8], numbers: &[f64; NUMBERS], count: usize) -> bool {
-    if (count == 14) & lexer::same(kind, b"ring") {
-        print_hit(rt, hits::ring_hit_above(ray(numbers), ring(numbers), 0.0));
-        return true;
-    }
-    if (count == 15) & lexer::same(kind, b"ring_above") {
-        let least = numbers[14];
-        print_hit(rt, hits::ring_hit_above(ray(numbers), ring(numbers), least));
-        return true;
-    }
-    if (count == 14) & lexer::same(kind, b"ring_default") {
-        print_hit(rt, hits::ring_hit(ray(numbers), ring(numbers)));
-        return true;
-    }
-    false
-}
-
-// The numbers behind the ray, up to `end`.
-fn corners<'a>(numbers: &'a [f64; NUMBERS], end: usize) -> &'a [f64]
-    requires le_end { 6 ≤ end }
-    requires end_bound { end ≤ 127 }
-{
-    let all = &numbers[..];
-    &all[6..end]
-}
-
-fn print_polygon(rt: &impl Print, kind: &[u8], numbers: &[f64; NUMBERS], count: usize) -> bool {
-    if count < 6 {
-        return false;
-    }
-    if NUMBERS < count {
-        return false;
-    }
-    if lexer::same(kind, b"polygon") {
-        print_hit(
-            rt,
-            polygon::polygon_hit_above(ray(numbers), corners(numbers, count), 0.0),
-        );
-        return true;
-    }
-    if lexer::same(kind, b"polygon_default") {
-        print_hit(
-            rt,
-            polygon::polygon_hit(ray(numbers), corners(numbers, count)),
-        );
-        return true;
-    }
-    print_polygon_above(rt, kind, numbers, count)
-}
-
-fn print_polygon_above(rt: &impl Print, kind: &[u8], numbers: &[f64; NUMBERS], count: usize) -> bool
-    requires le_count { 6 ≤ count }
-    requires count_bound { count ≤ 127 }
-{
-    if count == 6 {
-        return false;
-    }
-    if lexer::same(kind, b"polygon_above") {
-        let least = numbers[count - 1];
-        print_hit(
-            rt,
-            polygon::polygon_hit_above(ray(numbers), corners(numbers, count - 1), least),
-        );
-        return true;
-    }
-    false
-}
-
-fn print_shape(rt: &impl Print, kind: &[u8], numbers: &[f64; NUMBERS], count: usize) -> bool {
-    if print_sphere(rt, kind, numbers, count) {
-        return true;
-    }
-    if print_ring(rt, kind, numbers, count) {
-        return true;
-    }
-    print_polygon(rt, kind, numbers, count)
-}
-
-fn print_factors(rt: &impl Print, factors: Interreflection) {
+fn print_factors(rt: &impl Print, factors: Result<Interreflection, Reason>) {
     match factors {
-        Interreflection::Both(through, back) => {
-            print(rt, b"factors");
-            print_double(rt, through);
-            print_double(rt, back);
+        Ok(Interreflection { through, back }) => print_values(rt, "factors", &[through, back]),
+        Err(reason) => print_refusal(rt, reason),
+    }
+}
+
+fn print_transmissivity(rt: &impl Print, transmissivity: Result<f64, Reason>) {
+    match transmissivity {
+        Ok(t) => print_values(rt, "transmissivity", &[t]),
+        Err(reason) => print_refusal(rt, reason),
+    }
+}
+
+fn vector(x: f64, y: f64, z: f64) -> Vector {
+    Vector { x, y, z }
+}
+
+// A ray, and the numbers of the shape behind it.
+fn ray_of(numbers: &[f64]) -> Option<(Ray, &[f64])> {
+    match numbers {
+        [ox, oy, oz, dx, dy, dz, shape @ ..] => {
+            let ray = Ray {
+                origin: vector(*ox, *oy, *oz),
+                direction: vector(*dx, *dy, *dz),
+            };
+            Some((ray, shape))
         }
-        Interreflection::Refused(reason) => print_refusal(rt, reason),
+        _ => None,
     }
 }
 
-fn print_transmitted(rt: &impl Print, transmitted: Transmitted) {
-    match transmitted {
-        Transmitted::Transmissivity(t) => {
-            print(rt, b"transmissivity");
-            print_double(rt, t);
-        }
-        Transmitted::Refused(reason) => print_refusal(rt, reason),
+fn sphere_of(numbers: &[f64]) -> Option<Sphere> {
+    match numbers {
+        [x, y, z, radius] => Some(Sphere {
+            centre: vector(*x, *y, *z),
+            radius: *radius,
+        }),
+        _ => None,
     }
 }
 
-// Answers whether the kind is one of a pane of glass.
-fn print_pane(rt: &impl Print, kind: &[u8], numbers: &[f64; NUMBERS], count: usize) -> bool {
-    if (count == 3) & lexer::same(kind, b"factors") {
-        print_factors(rt, pane::factors(numbers[0], numbers[1], numbers[2]));
-        return true;
+fn ring_of(numbers: &[f64]) -> Option<Ring> {
+    match numbers {
+        [x, y, z, nx, ny, nz, inner, outer] => Some(Ring {
+            centre: vector(*x, *y, *z),
+            normal: vector(*nx, *ny, *nz),
+            inner: *inner,
+            outer: *outer,
+        }),
+        _ => None,
     }
-    if (count == 1) & lexer::same(kind, b"transmissivity") {
-        print_transmitted(rt, pane::transmissivity(numbers[0]));
-        return true;
-    }
-    false
 }
 
-fn print_answer(rt: &impl Print, kind: &[u8], numbers: &[f64; NUMBERS], count: usize) {
-    if (count == 3) & lexer::same(kind, b"fresnel") {
-        print_reflection(rt, fresnel::fresnel(numbers[0], numbers[1], numbers[2]));
-    } else if (count == 1) & lexer::same(kind, b"root") {
-        print(rt, b"root");
-        print_double(rt, root::root(numbers[0]));
-    } else if !(print_pane(rt, kind, numbers, count) || print_shape(rt, kind, numbers, count)) {
-        print(rt, b"bad");
+// Answers a ray's case; none where it is no ray's.
+fn hit_of(kind: &[u8], numbers: &[f64]) -> Option<Result<Option<f64>, Reason>> {
+    let (ray, shape) = ray_of(numbers)?;
+    match kind {
+        b"sphere" => Some(hits::sphere_hit_above(ray, sphere_of(shape)?, 0.0)),
+        b"sphere_default" => Some(hits::sphere_hit(ray, sphere_of(shape)?)),
+        b"ring" => Some(hits::ring_hit_above(ray, ring_of(shape)?, 0.0)),
+        b"ring_default" => Some(hits::ring_hit(ray, ring_of(shape)?)),
+        b"polygon" => Some(polygon::polygon_hit_above(ray, shape, 0.0)),
+        b"polygon_default" => Some(polygon::polygon_hit(ray, shape)),
+        _ => hit_above(kind, ray, shape),
     }
-    print(rt, b"\n");
+}
+
+// With a least distance as the last number.
+fn hit_above(kind: &[u8], ray: Ray, numbers: &[f64]) -> Option<Result<Option<f64>, Reason>> {
+    let [shape @ .., least] = numbers else {
+        return None;
+    };
+    match kind {
+        b"sphere_above" => Some(hits::sphere_hit_above(ray, sphere_of(shape)?, *least)),
+        b"ring_above" => Some(hits::ring_hit_above(ray, ring_of(shape)?, *least)),
+        b"polygon_above" => Some(polygon::polygon_hit_above(ray, shape, *least)),
+        _ => None,
+    }
+}
+
+fn print_answer(rt: &impl Print, kind: &[u8], numbers: &[f64]) {
+    match (kind, numbers) {
+        (b"root", [x]) => print_values(rt, "root", &[root::root(*x)]),
+        (b"fresnel", [cos1, n1, n2]) => print_reflection(rt, fresnel::fresnel(*cos1, *n1, *n2)),
+        (b"factors", [te, tm, ct]) => print_factors(rt, pane::factors(*te, *tm, *ct)),
+        (b"transmissivity", [t]) => print_transmissivity(rt, pane::transmissivity(*t)),
+        _ => match hit_of(kind, numbers) {
+            Some(hit) => print_hit(rt, hit),
+            None => print_values(rt, "bad", &[]),
+        },
+    }
 }
 
 fn answer(rt: &impl Print, line: &[u8]) {
-    let kind = lexer::next_word(line, 0);
-    let mut numbers = [0.0f64; NUMBERS];
-    let count = read_numbers(line, lexer::word_end(line, kind.place), &mut numbers);
-    print_answer(rt, lexer::part(line, kind.place, kind.len), &numbers, count);
-}
-
-// Answers the first `len` bytes of a line; the line was too long where there are fewer.
-fn answer_line(rt: &impl Print, line: &[u8], len: usize) {
-    if len <= line.len() {
-        answer(rt, &line[..len]);
-    } else {
-        print(rt, b"bad\n");
+    let kind = lexer::word_bytes(line, 0);
+    let mut numbers = [0.0; NUMBERS];
+    match read_numbers(line, lexer::past_word(line, 0), &mut numbers) {
+        Some(count) => print_answer(rt, kind, &numbers[..count]),
+        None => print_values(rt, "bad", &[]),
     }
 }
 
-// Puts a byte after the `len` bytes of a line, as far as there is room, and answers the line where the byte ends it. The
-// line's new length is one above the room where it is too long.
-fn take_byte(rt: &impl Print, line: &mut [u8; LINE], len: usize, b: u8) -> usize {
-    if b == b'\n' {
-        answer_line(rt, line, len);
-        return 0;
-    }
-    if len < LINE {
-        line[len] = b;
-        return len + 1;
-    }
-    LINE + 1
+// A line as far as it is read. The length of one that is too long is one above the room.
+#[derive(Drop)]
+struct Line {
+    bytes: [u8; LINE],
+    len: usize,
 }
 
-fn take_bytes(rt: &impl Print, line: &mut [u8; LINE], start: usize, bytes: &[u8]) -> usize {
-    let mut len = start;
-    for b in bytes {
-        len = take_byte(rt, line, len, *b);
+impl Line {
+    fn answer(&self, rt: &impl Print) {
+        match self.bytes.get(..self.len) {
+            Some(line) => answer(rt, line),
+            None => print_values(rt, "bad", &[]),
+        }
     }
-    len
+
+    // Takes one byte more, as far as there is room, and answers the line where the byte ends it.
+    fn take(&mut self, rt: &impl Print, b: u8) {
+        if b == b'\n' {
+            self.answer(rt);
+            self.len = 0;
+        } else if self.len < LINE {
+            self.bytes[self.len] = b;
+            self.len += 1;
+        } else {
+            self.len = LINE + 1;
+        }
+    }
 }
 
 // The last line may have no end of its own. The end has to be seen: cases that a failed read cut short are not all.
-fn answer_rest(rt: &impl Print, from: &mut impl Read, line: &mut [u8; LINE], len: usize) {
+fn answer_rest(rt: &impl Print, from: &mut impl Read, line: &Line) {
     let mut more = [0u8; 1];
     if !matches!(from.read(&mut more), Ok(0)) {
-        print(rt, b"unreadable\n");
-        return;
+        let _ = println!(rt; "unreadable");
+    } else if 0 < line.len {
+        line.answer(rt);
     }
-    if 0 < len {
-        take_byte(rt, line, len, b'\n');
+}
+
+fn take_all(rt: &impl Print, line: &mut Line, bytes: &[u8]) {
+    for b in bytes {
+        line.take(rt, *b);
     }
 }
 
@@ -356,14 +253,16 @@ fn answer_rest(rt: &impl Print, from: &mut impl Read, line: &mut [u8; LINE], len
 fn main(rt: HostRuntime) {
     let mut from = rt.reader();
     let mut buffer = [0u8; 65536];
-    let mut line = [0u8; LINE];
-    let mut len = 0;
+    let mut line = Line {
+        bytes: [0; LINE],
+        len: 0,
+    };
     for _ in 0..65536 {
         let n = input::read_full(&mut from, &mut buffer);
-        len = take_bytes(&rt, &mut line, len, &buffer[..n]);
+        take_all(&rt, &mut line, &buffer[..n]);
         if n < buffer.len() {
             break;
         }
     }
-    answer_rest(&rt, &mut from, &mut line, len);
+    answer_rest(&rt, &mut from, &line);
 }

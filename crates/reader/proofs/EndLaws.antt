@@ -6,18 +6,15 @@ use Prim.Native.Nat.{ℕ, ◌≤◌, ◌<◌}
 use borrow.Author.Tests.{le-leb}
 use lib.Ieee.{Float}
 use lib.ListN.{length, replicate}
-use Rattle.driver.specs.Ending.{ending, index_after}
-use Rattle.driver.specs.declared.End.{End}
+use Rattle.driver.specs.Ending.{End, ending, index_after}
 use Rattle.index.proofs.TableLaws.{lent_used}
 use Rattle.index.specs.Report.{all_looked, index_image, report}
 use Rattle.laws.specs.Bytes.{Bytes}
 use Rattle.mixed_driver.specs.Paired.{EndsPaired, short_reason}
 use Rattle.reader.proofs.IndexedLaws.{long_index, short_index}
-use Rattle.reader.specs.Answer.{answered, numbers_of}
+use Rattle.reader.specs.Answer.{Accepted, Answer, Refused, answered, numbers_of}
 use Rattle.reader.specs.Indexed.{ReadsIndexed, answered_short}
 use Rattle.reader.specs.Paired.{ReadsPaired, read_with_pairs}
-use Rattle.reader.specs.declared.Answer.{Answer}
-use Rattle.reader.specs.declared.Answer.TheVariants.{Accepted, Refused}
 use Rattle.scene.proofs.ImageLaws.{zero_reals, zero_records}
 use Rattle.scene.specs.HouseRules.{zero_real}
 use Rattle.scene.specs.Reading.{Reading, accepted, refused, statements}
@@ -25,7 +22,7 @@ use Rattle.scene.specs.Record.{answer, real_image, record_image}
 use Rattle.scene.specs.declared.Mode.{Mode}
 use Rattle.sides.proofs.SideLaws.{zero_pairs}
 use Rattle.sides.specs.Sides.{pair_image}
-use Rattle.driver.specs.declared.End.TheVariants as end
+use Rattle.driver.specs.Ending as end
 
 -- the answer of an end, and its report
 abbrev told : End → Answer

@@ -12,11 +12,9 @@ use Rattle.graph.specs.Graph.{Graph, Sides, graph_of}
 use Rattle.laws.specs.Bytes.{Bytes}
 use Rattle.mixed_driver.specs.Paired.{enough_pairs}
 use Rattle.reader.proofs.PairedLaws.{accepted_enough, enough, paired_reads}
-use Rattle.reader.specs.Answer.{Reads, read_into, answered}
+use Rattle.reader.specs.Answer.{Accepted, Answer, Reads, answered, read_into}
 use Rattle.reader.specs.Exchange.{ReaderExchange, SameButNumbers, SamePairs, SameScene}
 use Rattle.reader.specs.Paired.{ReadsPaired, read_with_pairs}
-use Rattle.reader.specs.declared.Answer.{Answer}
-use Rattle.reader.specs.declared.Answer.TheVariants.{Accepted}
 use Rattle.scene.proofs.FlatLaws.{record_in_lem}
 use Rattle.scene.specs.Exchange.{exchange_shift}
 use Rattle.scene.specs.HouseRules.{zero_real}

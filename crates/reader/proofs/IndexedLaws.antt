@@ -8,10 +8,9 @@ use lib.ListN.{length}
 use Rattle.laws.specs.Bytes.{Bytes}
 use Rattle.mixed_driver.specs.Paired.{read_paired, short_reason}
 use Rattle.reader.proofs.ExchangeLaws.{reader_exchange}
-use Rattle.reader.specs.Answer.{answered}
+use Rattle.reader.specs.Answer.{Answer, answered}
 use Rattle.reader.specs.Indexed.{EnginesAlike, IndexedExchange, IndexedReads, read_indexed}
 use Rattle.reader.specs.Paired.{ReadsPaired, read_with_pairs}
-use Rattle.reader.specs.declared.Answer.{Answer}
 use Rattle.scene.specs.Reading.{refused}
 use Rattle.scene.specs.Record.{answer, real_image, record_image}
 use Rattle.scene.specs.declared.Mode.{Mode}

@@ -9,9 +9,8 @@ use lib.ListN.{length}
 use Rattle.laws.specs.Bytes.{Bytes}
 use Rattle.reader.proofs.ExchangeLaws.{row_of}
 use Rattle.reader.proofs.ReadsLaws.{accepted_as}
-use Rattle.reader.specs.Answer.{Reads, read_into}
+use Rattle.reader.specs.Answer.{Answer, Reads, read_into}
 use Rattle.reader.specs.Links.{ReaderLinks, RowLinks}
-use Rattle.reader.specs.declared.Answer.{Answer}
 use Rattle.scene.proofs.PropertyLaws.{modifier_latest, modifier_void, next_least, target_latest, target_none, next_silent}
 use Rattle.scene.specs.Properties.{LatestBelow, Named, NextAbove, numbered}
 use Rattle.scene.specs.Reading.{Entry, accepted, statements}

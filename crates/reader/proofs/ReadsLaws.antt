@@ -4,8 +4,7 @@ use mathlib.Core.Path.{◌≡◌, refl}
 use Prim.Native.Nat.{ℕ}
 use native.Mathlib.Omega.{arith}
 use lib.ListN.{length}
-use Rattle.reader.specs.Answer.{answered}
-use Rattle.reader.specs.declared.Answer.TheVariants.{Accepted, Refused}
+use Rattle.reader.specs.Answer.{Accepted, Refused, answered}
 use Rattle.scene.specs.Reading.{Entry, Reading, accepted, refused}
 use Rattle.scene.specs.Record.{real_table}
 

@@ -1,12 +1,23 @@
 -- What the reader answers, and what it leaves in the lent tables.
-use Rattle.std.specs.Prelude.{List, ◌≡◌, ℕ, Float, length}
+use Rattle.std.specs.Prelude.{List, ◌≡◌, ℕ, Float, length, Result, Ok, Err}
 use Rattle.laws.specs.Bytes.{Bytes}
-use Rattle.reader.specs.declared.Answer.{Answer}
-use Rattle.reader.specs.declared.Answer.TheVariants.{Accepted, Refused}
+use Rattle.reader.specs.declared.Counts.{Counts}
+use Rattle.scene.specs.Reason.{reason_number}
 use Rattle.scene.specs.Reading.{Reading, accepted, refused}
 use Rattle.scene.specs.Record.{answer, record_image, real_image, real_table, settings_for, Answer as Numbers}
 use Rattle.scene.specs.declared.Mode.{Mode}
+use Rattle.scene.specs.declared.Refusal.{Refusal}
 use Rattle.sides.specs.Read.{read}
+
+-- accepted with the counts of primitives and reals, or refused with the number of a reason and a place
+pub data Answer : Type 0 where
+  Accepted : (primitives reals : ℕ) → Answer
+  Refused : (reason place : ℕ) → Answer
+
+-- what the code answers
+abbrev pub answer_of : Result Counts Refusal → Answer
+answer_of (Ok c) = Accepted c.primitives c.reals
+answer_of (Err r) = Refused (reason_number r.reason) r.place
 
 -- the answer that a reading comes to
 abbrev pub answered : Reading → Answer

@@ -2,8 +2,7 @@
 use Rattle.std.specs.Prelude.{List, ◌≡◌, ℕ, Float, length}
 use Rattle.laws.specs.Bytes.{Bytes}
 use Rattle.reader.specs.Paired.{ReadsPaired}
-use Rattle.reader.specs.declared.Answer.{Answer}
-use Rattle.reader.specs.declared.Answer.TheVariants.{Accepted}
+use Rattle.reader.specs.Answer.{Accepted, Answer}
 use Rattle.scene.specs.declared.Mode.TheVariants.{New, Archive}
 
 -- the answer and all tables of a call

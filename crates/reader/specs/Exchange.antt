@@ -4,8 +4,7 @@ use Rattle.graph.specs.Answers.{shows}
 use Rattle.graph.specs.Graph.{graph_of, side_in}
 use Rattle.laws.specs.Bytes.{Bytes}
 use Rattle.reader.specs.Paired.{ReadsPaired}
-use Rattle.reader.specs.declared.Answer.{Answer}
-use Rattle.reader.specs.declared.Answer.TheVariants.{Accepted}
+use Rattle.reader.specs.Answer.{Accepted, Answer}
 use Rattle.scene.specs.Exchange.{exchange_shift}
 use Rattle.scene.specs.Reading.{Entry}
 use Rattle.scene.specs.Record.{record_in, settings_for}

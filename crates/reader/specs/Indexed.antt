@@ -3,19 +3,26 @@ use Rattle.std.specs.Prelude.{cond, List, ◌++◌, ◌≡◌, ℕ, ◌≤◌, l
 use Rattle.index.specs.Report.{index_image, report}
 use Rattle.laws.specs.Bytes.{Bytes}
 use Rattle.mixed_driver.specs.Paired.{short_reason}
-use Rattle.reader.specs.Answer.{answered, numbers_of}
+use Rattle.reader.specs.Answer.{Answer, Accepted, Refused, answer_of, answered, numbers_of}
 use Rattle.reader.specs.Archive.{SameCall}
 use Rattle.reader.specs.Exchange.{SameScene}
 use Rattle.reader.specs.Paired.{ReadsPaired, read_with_pairs}
-use Rattle.reader.specs.declared.Answer.{Answer}
-use Rattle.reader.specs.declared.Answer.TheVariants.{Accepted, Refused}
-use Rattle.reader.specs.declared.Indexed.{Indexed}
+use Rattle.reader.specs.declared.Indexed.{Indexed as CodeIndexed}
 use Rattle.scene.specs.Exchange.{exchange_shift}
 use Rattle.scene.specs.Reading.{Entry, Reading, refused}
 use Rattle.scene.specs.Record.{answer, real_image, record_image, settings_for}
 use Rattle.scene.specs.declared.Mode.{Mode}
 use Rattle.sides.specs.Exchange.{MixedExchange}
 use Rattle.sides.specs.Sides.{pair_image}
+
+-- an answer, and how many entries of the index were looked at for it
+pub record Indexed : Type 0 where
+  pub answer : Answer
+  pub looked : ℕ
+
+-- what the code answers
+abbrev pub indexed_of : CodeIndexed → Indexed
+indexed_of f = record { answer = answer_of f.answer; looked = f.looked }
 
 -- "24 where the lent index is under 2,048 entries, place 0, after 1 and before the rest", of a text of so many bytes
 abbrev pub answered_short : (len : ℕ) → Answer

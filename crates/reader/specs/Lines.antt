@@ -1,8 +1,7 @@
 -- The line in each record of the lent table as it stands after a call.
 use Rattle.std.specs.Prelude.{List, ◌≡◌, ℕ, ◌≤◌, ◌<◌, Float}
 use Rattle.laws.specs.Bytes.{Bytes}
-use Rattle.reader.specs.Answer.{Reads}
-use Rattle.reader.specs.declared.Answer.TheVariants.{Accepted}
+use Rattle.reader.specs.Answer.{Accepted, Reads}
 use Rattle.scene.specs.Record.{line_at, line_in, record_in}
 use Rattle.scene.specs.declared.Mode.{Mode}
 

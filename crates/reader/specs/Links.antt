@@ -2,8 +2,7 @@
 use Rattle.std.specs.Prelude.{true, false, List, ◌⊎◌, ◌≡◌, ℕ, ◌<◌, Float}
 use Rattle.std.proofs.Math.Option.{some}
 use Rattle.laws.specs.Bytes.{Bytes, same}
-use Rattle.reader.specs.Answer.{Reads, read_into}
-use Rattle.reader.specs.declared.Answer.TheVariants.{Accepted}
+use Rattle.reader.specs.Answer.{Accepted, Reads, read_into}
 use Rattle.scene.specs.Links.{gives}
 use Rattle.scene.specs.Properties.{LatestBelow, Named, NextAbove, numbered}
 use Rattle.scene.specs.Reading.{Entry, accepted, statements}

@@ -2,9 +2,7 @@
 use Rattle.std.specs.Prelude.{true, List, ◌≡◌, ℕ, Float, length}
 use Rattle.laws.specs.Bytes.{Bytes}
 use Rattle.mixed_driver.specs.Paired.{enough_pairs, read_paired}
-use Rattle.reader.specs.Answer.{Reads, answered, numbers_of}
-use Rattle.reader.specs.declared.Answer.{Answer}
-use Rattle.reader.specs.declared.Answer.TheVariants.{Accepted}
+use Rattle.reader.specs.Answer.{Accepted, Answer, Reads, answered, numbers_of}
 use Rattle.scene.specs.Reading.{Reading}
 use Rattle.scene.specs.Record.{answer, real_image, record_image}
 use Rattle.scene.specs.declared.Mode.{Mode}

@@ -2,24 +2,35 @@
 #![tactic(auto)]
 
 ghost use Rattle.std.specs.Prelude.{◌≡◌};
-ghost use Rattle.reader.specs.Answer.{Reads};
-ghost use Rattle.reader.specs.Indexed.{ReadsIndexed, answered_short};
+ghost use Rattle.reader.specs.Answer.{Reads, answer_of};
+ghost use Rattle.reader.specs.Indexed.{ReadsIndexed, answered_short, indexed_of};
 ghost use Rattle.reader.specs.Paired.{ReadsPaired};
 
-use driver::End;
-use scene::Mode;
+use driver::Accepted;
+use scene::{Mode, Reason, Refusal};
 
-// Accepted with the counts of primitives and reals, or refused with reason and place.
-#[derive(Clone, Copy)]
-pub enum Answer {
-    Accepted(usize, usize),
-    Refused(u32, usize),
+// How many primitives an accepted text has, and how many reals.
+#[derive(Clone, Copy, PartialEq, Eq, Debug)]
+pub struct Counts {
+    pub primitives: usize,
+    pub reals: usize,
+}
+
+impl From<Accepted> for Counts {
+    ghost from_gives = { λ a c. c ≡ record { primitives = a.primitives; reals = a.reals } };
+
+    fn from(accepted: Accepted) -> Counts {
+        Counts {
+            primitives: accepted.primitives,
+            reals: accepted.reals,
+        }
+    }
 }
 
 // An answer, and how many entries of the index were looked at for it.
-#[derive(Clone, Copy)]
+#[derive(Clone, Copy, PartialEq, Eq, Debug)]
 pub struct Indexed {
-    pub answer: Answer,
+    pub answer: Result<Counts, Refusal>,
     pub looked: u32,
 }
 
@@ -30,21 +41,22 @@ pub fn read(
     records: &mut [u32],
     reals: &mut [f64],
     pairs: &mut [u32],
-) -> Answer
-    ensures { ReadsPaired mode text.now records.old reals.old pairs.old result records.new reals.new pairs.new }
+) -> Result<Counts, Refusal>
+    ensures { ReadsPaired mode text.now records.old reals.old pairs.old (answer_of result) records.new reals.new pairs.new }
 {
     let mut none: [u32; 0] = [];
-    match mixed_driver::run(mode, text, records, reals, pairs, &mut none) {
-        End::Accepted(n, k, _) => Answer::Accepted(n, k),
-        End::Refused(reason, place) => Answer::Refused(reason, place),
-    }
+    let accepted = mixed_driver::run(mode, text, records, reals, pairs, &mut none)?;
+    Ok(Counts::from(accepted))
 }
 
 // The refusal where an index is too short.
-fn without_index(len: usize) -> Answer
-    ensures { result ≡ answered_short len }
+fn without_index(len: usize) -> Refusal
+    ensures { answer_of (Err result) ≡ answered_short len }
 {
-    Answer::Refused(mixed_driver::short_reason(24, len), 0)
+    Refusal {
+        reason: mixed_driver::refused_short(Reason::IndexTooShort, len),
+        place: 0,
+    }
 }
 
 // Reads a scene text, in a mode, into the lent tables, and searches names by the lent index.
@@ -56,23 +68,23 @@ pub fn read_indexed(
     pairs: &mut [u32],
     index: &mut [u32],
 ) -> Indexed
-    ensures { ReadsIndexed mode text.now records.old reals.old pairs.old index.old result records.new reals.new pairs.new index.new }
+    ensures { ReadsIndexed mode text.now records.old reals.old pairs.old index.old (indexed_of result) records.new reals.new pairs.new index.new }
 {
     if index.len() < index::ENTRIES {
         table::clear_all(records, reals, index);
-        table::clear_numbers(pairs);
+        pairs.fill(0);
         return Indexed {
-            answer: without_index(text.len()),
+            answer: Err(without_index(text.len())),
             looked: 0,
         };
     }
     match mixed_driver::run(mode, text, records, reals, pairs, index) {
-        End::Accepted(n, k, looked) => Indexed {
-            answer: Answer::Accepted(n, k),
-            looked,
+        Ok(accepted) => Indexed {
+            answer: Ok(Counts::from(accepted)),
+            looked: accepted.looked,
         },
-        End::Refused(reason, place) => Indexed {
-            answer: Answer::Refused(reason, place),
+        Err(refusal) => Indexed {
+            answer: Err(refusal),
             looked: 0,
         },
     }
@@ -84,8 +96,8 @@ pub fn read_with_own_tables(
     text: &[u8],
     records: &mut [u32],
     reals: &mut [f64],
-) -> Answer
-    ensures { Reads mode text.now records.old reals.old result records.new reals.new }
+) -> Result<Counts, Refusal>
+    ensures { Reads mode text.now records.old reals.old (answer_of result) records.new reals.new }
 {
     let mut pairs = [0; 2 * table::MOST_RECORDS];
     let mut index = [0; index::ENTRIES];

@@ -4,7 +4,7 @@ use lib.ListN.{length}
 use Rattle.reader.proofs.ExchangeLaws.{same_scene}
 use Rattle.reader.proofs.IndexedLaws.{indexed_reads}
 use Rattle.reader.specs.Paired.{ReadsPaired}
-use Rattle.reader.specs.declared.Answer.{Answer}
+use Rattle.reader.specs.Answer.{Answer}
 use Rattle.rearranged_reading.specs.Reader.{IndexedRearrange, ReaderRearrange}
 use Rattle.rearrangement.proofs.RearrangeLaws.{rearrange}
 use Rattle.rearrangement.specs.Cut.{joined, text_of}

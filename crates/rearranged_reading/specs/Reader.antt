@@ -4,11 +4,9 @@ use Rattle.std.specs.Prelude.{List, ◌≡◌, ℕ, ◌≤◌, Float, length}
 use Rattle.laws.specs.Bytes.{Bytes}
 use Rattle.laws.specs.Shuffle.{Shuffle}
 use Rattle.reader.specs.Exchange.{SameScene}
-use Rattle.reader.specs.Indexed.{ReadsIndexed}
+use Rattle.reader.specs.Indexed.{Indexed, ReadsIndexed}
 use Rattle.reader.specs.Paired.{ReadsPaired}
-use Rattle.reader.specs.declared.Answer.{Answer}
-use Rattle.reader.specs.declared.Answer.TheVariants.{Accepted}
-use Rattle.reader.specs.declared.Indexed.{Indexed}
+use Rattle.reader.specs.Answer.{Accepted, Answer}
 use Rattle.rearrangement.specs.Cut.{Cut, Piece, joined, pieces, text_of}
 use Rattle.rearrangement.specs.Order.{Ordered, Renumbering}
 use Rattle.scene.specs.Reading.{Entry, accepted}

@@ -41,11 +41,10 @@ fn put_primitive(out: &mut [u8], c: Cursor, text: &[u8], records: &[u32], n: usi
     ensures { Puts out.old c (primitive_text text.now records.now n) result out.new }
 {
     let kind = type_names::type_name(table::field(records, n, table::KIND));
-    let bytes = kind.0;
     let name = table::field(records, n, table::NAME) as usize;
     let strings = table::field(records, n, table::STRINGS);
     let reals = table::field(records, n, table::REALS);
-    let behind_head = put_head(out, c, text, records, n, lexer::part(&bytes, 0, kind.1));
+    let behind_head = put_head(out, c, text, records, n, kind);
     let behind_line = lines::put(out, behind_head, b"\n");
     lines::put_arguments(out, behind_line, text, name, strings, reals)
 }
@@ -68,10 +67,8 @@ pub fn put_records(out: &mut [u8], text: &[u8], records: &[u32], count: usize) -
     ensures { Puts out.old (record { at = 0; full = false }) (record_texts text.now records.now count) result out.new }
 {
     let mut end = Cursor { at: 0, full: false };
-    let mut n = 0;
-    while n < count {
-        n += 1;
-        end = put_record(out, end, text, records, n);
+    for n in 0..count {
+        end = put_record(out, end, text, records, n + 1);
     }
     end
 }

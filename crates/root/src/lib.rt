@@ -58,7 +58,7 @@ fn find_digits(number: u64) -> Digits
         rest: 0,
         number,
     };
-    while d.found < 53 {
+    for _digit in 0..53u64 {
         d = next_digit(d);
     }
     d

@@ -28,3 +28,4 @@ pub mod AlikeLaws
 pub mod ModeLaws
 pub mod RiseLaws
 pub mod LineLaws
+pub mod KindLaws

@@ -11,3 +11,4 @@ pub mod Told
 pub mod Block
 pub mod Exchange
 pub mod Archive
+pub mod Reason

@@ -6,9 +6,11 @@ ghost use Rattle.graph.specs.Answers.{shown_in, those};
 ghost use Rattle.graph.specs.Graph.{graph_of};
 ghost use Rattle.shown.specs.Code.{Adds, Holds, Numbered, Walkable, marked_material};
 ghost use Rattle.shown.specs.List.{every, fit_answer, fit_list, link_fits, pair_refusal, primitive_fits, shown_answer, shown_list, side_fits, table_fits};
+ghost use Rattle.table.specs.Question.{refusal_number};
 ghost use Rattle.table.specs.View.{view_of};
 
 use kinds::MIXFUNC;
+use scene::Reason;
 use table::{KIND, MODIFIER, MOST_RECORDS};
 
 // How many materials are listed, or a refusal's number.
@@ -66,10 +68,8 @@ fn primitive_fits(records: &[u32], pairs: &[u32], count: usize, n: usize) -> boo
 fn all_fit(records: &[u32], pairs: &[u32], count: usize) -> bool
     ensures { result ≡ every (primitive_fits (graph_of records.now pairs.now) count) count }
 {
-    let mut n = 0;
-    while n < count {
-        n += 1;
-        if !primitive_fits(records, pairs, count, n) {
+    for n in 0..count {
+        if !primitive_fits(records, pairs, count, n + 1) {
             return false;
         }
     }
@@ -88,12 +88,12 @@ fn table_fits(records: &[u32], pairs: &[u32], marks: &mut [u32], count: usize) -
     loops::first_loop(records, pairs, marks) == 0
 }
 
-// Why a primitive cannot be asked about: 18 for the count, in both tables, then 17 for the number; else 0.
-fn pair_refusal(records: &[u32], pairs: &[u32], count: usize, number: usize) -> u32
-    ensures { result ≡ pair_refusal records.now pairs.now count number }
+// Whether a primitive can be asked about: the count is tested first, in both tables, then the number.
+fn pair_refusal(records: &[u32], pairs: &[u32], count: usize, number: usize) -> Result<(), Reason>
+    ensures { refusal_number result ≡ pair_refusal records.now pairs.now count number }
 {
     if pairs.len() / 2 < count {
-        return 18;
+        return Err(Reason::BadTable);
     }
     table::number_refusal(records, count, number)
 }
@@ -132,13 +132,10 @@ fn materials(records: &[u32], marks: &[u32], list: &mut [u32]) -> usize
     requires marks_len_bound { length marks.now ≤ 1025 }
     ensures { Holds (those (marked_material records.now marks.now) (length marks.now - 1)) (length list.old) list.new result }
 {
-    table::clear_numbers(list);
+    list.fill(0);
     let mut used = 0;
-    let mut n = 0;
-    let last = marks.len() - 1;
-    while n < last {
-        n += 1;
-        used = add(records, marks, list, n, used);
+    for n in 0..marks.len() - 1 {
+        used = add(records, marks, list, n + 1, used);
     }
     used
 }
@@ -166,12 +163,12 @@ fn list_of(
     ensures list_after { list.new ≡ fit_list (graph_of records.now pairs.now) count number (length list.old) }
 {
     if !table_fits(records, pairs, marks, count) {
-        table::clear_numbers(list);
+        list.fill(0);
         return Shown::Refused(18);
     }
     let total = walked(records, pairs, marks, number, list);
     if list.len() < total {
-        table::clear_numbers(list);
+        list.fill(0);
         return Shown::Refused(23);
     }
     Shown::Listed(total)
@@ -188,11 +185,14 @@ pub fn list_shown(
     ensures value { result ≡ shown_answer records.now pairs.now count number (length list.old) }
     ensures list_after { list.new ≡ shown_list records.now pairs.now count number (length list.old) }
 {
-    let reason = pair_refusal(records, pairs, count, number);
-    if reason != 0 {
-        table::clear_numbers(list);
-        return Shown::Refused(reason);
+    match pair_refusal(records, pairs, count, number) {
+        Ok(()) => {
+            let mut marks = [0u32; MOST_RECORDS + 1];
+            list_of(records, pairs, &mut marks[..count + 1], count, number, list)
+        }
+        Err(reason) => {
+            list.fill(0);
+            Shown::Refused(reason.number())
+        }
     }
-    let mut marks = [0u32; MOST_RECORDS + 1];
-    list_of(records, pairs, &mut marks[..count + 1], count, number, list)
 }

@@ -26,10 +26,8 @@ fn put_list(out: &mut [u8], at: usize, list: &[u32]) -> usize
     ensures value { result ≡ behind out.old at (joined 0 list.now) }
 {
     let mut end = at;
-    let mut k = 0;
-    while k < list.len() {
-        end = put_number(out, end, k, list[k]);
-        k += 1;
+    for (k, n) in list.iter().enumerate() {
+        end = put_number(out, end, k, *n);
     }
     end
 }

@@ -17,10 +17,8 @@ use Rattle.mixed_driver.specs.Paired.{enough_pairs}
 use Rattle.reader.proofs.ExchangeLaws.{reader_exchange}
 use Rattle.reader.proofs.PairedLaws.{accepted_enough, enough}
 use Rattle.reader.proofs.ReadsLaws.{AcceptedAs, accepted_as}
-use Rattle.reader.specs.Answer.{read_into}
+use Rattle.reader.specs.Answer.{Accepted, Answer, read_into}
 use Rattle.reader.specs.Paired.{ReadsPaired, read_with_pairs}
-use Rattle.reader.specs.declared.Answer.{Answer}
-use Rattle.reader.specs.declared.Answer.TheVariants.{Accepted}
 use Rattle.scene.proofs.AcceptLaws.{accept_forth}
 use Rattle.scene.proofs.BlockLaws.{exchange}
 use Rattle.scene.proofs.IndependentLaws.{clear_first, clear_second}

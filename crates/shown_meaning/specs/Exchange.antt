@@ -5,8 +5,7 @@ use Rattle.graph.specs.Answers.{shown_in, stands_in}
 use Rattle.graph.specs.Graph.{graph_of}
 use Rattle.laws.specs.Bytes.{Bytes}
 use Rattle.reader.specs.Paired.{ReadsPaired}
-use Rattle.reader.specs.declared.Answer.{Answer}
-use Rattle.reader.specs.declared.Answer.TheVariants.{Accepted}
+use Rattle.reader.specs.Answer.{Accepted, Answer}
 use Rattle.scene.specs.Exchange.{exchange_shift}
 use Rattle.scene.specs.Reading.{Entry}
 use Rattle.scene.specs.Record.{settings_for}

@@ -11,7 +11,7 @@ use Rattle.laws.specs.Bytes.{Bytes}
 use Rattle.scene.specs.Record.{filled, record_in}
 use Rattle.sorter.specs.Code.{order_in}
 use Rattle.ties.specs.Ties.{classes_to, held_rows}
-use Rattle.writer.specs.declared.Answer.{Answer}
+use Rattle.writer.specs.Answer.{Answer}
 
 grouped_length : (held : ℕ → ℕ → Bool) (type : ℕ → ℕ) (n last : ℕ) (left : List ℕ) → length (grouped_from held type n last left) ≡ n
 unfolding grouped_from

@@ -7,8 +7,7 @@ use Rattle.scene.specs.Reading.{Entry}
 use Rattle.scene.specs.declared.Mode.{Mode}
 use Rattle.sorting.specs.Sorted.{sorted_text}
 use Rattle.writer.specs.Answer as written
-use Rattle.writer.specs.Answer.{Outcome, answered, checked, fitted}
-use Rattle.writer.specs.declared.Answer.{Answer}
+use Rattle.writer.specs.Answer.{Answer, Outcome, answered, checked, fitted}
 
 -- a text that can be cut is sorted; 33 and 34 come before 23
 abbrev pub if_cut : Verdict → Outcome → Outcome

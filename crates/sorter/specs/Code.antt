@@ -7,15 +7,15 @@ use Rattle.scene.specs.Record.{record_image, record_in}
 use Rattle.scene.specs.declared.Settings.{Settings}
 use Rattle.sorter.specs.Answer.{sorted_outcome}
 use Rattle.ties.specs.Ties.{classes_to, held_rows}
-use Rattle.writer.specs.Answer.{answered, output}
-use Rattle.writer.specs.declared.Answer.{Answer}
+use Rattle.writer.specs.Answer.{Answer}
+use Rattle.writer.specs.Left.{Leaves}
 
 -- the order of the first records, 1,024 at most
 unfoldable pub order_in : Bytes → (table : List ℕ) → (count : ℕ) → List ℕ
 order_in text T n = let many = min n 1024 in grouped (held_rows T (classes_to text T many)) (λ k. (record_in T k).type) many
 
 -- where the table is that of an accepted text
-abbrev pub WritesSorted : Bytes → (table : List ℕ) → (count : ℕ) → (out : Bytes) → (r : Answer) → (out' : Bytes) → Type 0
-WritesSorted text T count out r out' =
+abbrev pub LeavesSorted : Bytes → (table : List ℕ) → (count : ℕ) → (out : Bytes) → (r : Answer) → (out' : Bytes) → Type 0
+LeavesSorted text T count out r out' =
     (s : Settings) (es : List Entry) (k : ℕ) → read_statements s text ≡ accepted es → T ≡ record_image text k (accepted es) → count ≡ length es → min count 1024 ≡ count
-    → (r ≡ answered (sorted_outcome text (length out) es)) × (out' ≡ output (length out) (sorted_outcome text (length out) es))
+    → Leaves (sorted_outcome text (length out) es) out r out'

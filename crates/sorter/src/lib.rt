@@ -3,20 +3,19 @@
 
 ghost use Rattle.std.specs.Prelude.{length};
 ghost use Rattle.block_text.specs.BlockText.{WritesBlocks};
-ghost use Rattle.sorter.specs.Answer.{Sorts};
-ghost use Rattle.sorter.specs.Code.{WritesSorted, order_in};
+ghost use Rattle.sorter.specs.Answer.{Sorts, sorted_by};
+ghost use Rattle.sorter.specs.Code.{LeavesSorted, order_in};
+ghost use Rattle.writer.specs.Answer.{answer_of};
+ghost use Rattle.writer.specs.Left.{Leaves};
 
-use blocks::Cut;
-use fresh::Fresh;
-use scene::Mode;
+use scene::{Mode, Refusal};
 use table::MOST_RECORDS;
-use writer::Answer;
 
 // A text that is cut into blocks, sorted.
-fn write_cut(text: &[u8], records: &[u32], ends: &[usize], out: &mut [u8]) -> Answer
-    ensures { WritesBlocks text.now ends.now (order_in text.now records.now (length ends.now)) out.old result out.new }
+fn write_cut(text: &[u8], records: &[u32], ends: &[usize], out: &mut [u8]) -> Result<usize, Refusal>
+    ensures { WritesBlocks text.now ends.now (order_in text.now records.now (length ends.now)) out.old (answer_of result) out.new }
 {
-    let count = lexer::least(ends.len(), MOST_RECORDS);
+    let count = ends.len().min(MOST_RECORDS);
     let mut classes = [0usize; MOST_RECORDS];
     ties::classes(text, records, &mut classes[..count]);
     let mut order = [0usize; MOST_RECORDS];
@@ -25,30 +24,40 @@ fn write_cut(text: &[u8], records: &[u32], ends: &[usize], out: &mut [u8]) -> An
 }
 
 // The records of a text, cut into blocks and sorted.
-fn write_sorted(text: &[u8], records: &[u32], count: usize, out: &mut [u8]) -> Answer
-    ensures { WritesSorted text.now records.now count out.old result out.new }
+fn put_sorted(text: &[u8], records: &[u32], count: usize, out: &mut [u8]) -> Result<usize, Refusal>
+    ensures { LeavesSorted text.now records.now count out.old (answer_of result) out.new }
 {
-    let many = lexer::least(count, MOST_RECORDS);
+    let many = count.min(MOST_RECORDS);
     let mut ends = [0usize; MOST_RECORDS];
-    match blocks::block_ends(text, records, &mut ends[..many]) {
-        Cut::Refused(reason, place) => {
-            writer::clear_from(out, 0);
-            Answer::Refused(reason, place)
-        }
-        Cut::Made => write_cut(text, records, &ends[..many], out),
-    }
+    blocks::block_ends(text, records, &mut ends[..many])?;
+    write_cut(text, records, &ends[..many], out)
 }
 
-// Writes a text with its statements sorted into a lent output. The tables are to be those that reading the text in the same mode
-// leaves; they are compared with a fresh reading, and never written.
-pub fn sort(mode: Mode, text: &[u8], records: &[u32], reals: &[f64], out: &mut [u8]) -> Answer
-    ensures { Sorts mode text.now records.now reals.now out.old result out.new }
+// The same, once the tables are compared with a fresh reading.
+fn put_checked(
+    mode: Mode,
+    text: &[u8],
+    records: &[u32],
+    reals: &[f64],
+    out: &mut [u8],
+) -> Result<usize, Refusal>
+    ensures { Leaves (sorted_by mode text.now records.now reals.now (length out.old)) out.old (answer_of result) out.new }
 {
-    match fresh::compare(mode, text, records, reals) {
-        Fresh::Refused(reason, place) => {
-            writer::clear_from(out, 0);
-            Answer::Refused(reason, place)
-        }
-        Fresh::Same(count) => write_sorted(text, records, count, out),
-    }
+    let count = fresh::compare(mode, text, records, reals)?;
+    put_sorted(text, records, count, out)
+}
+
+// Writes a text with its statements sorted into a lent output, and answers its length. The tables are to be those that reading the
+// text in the same mode leaves; they are compared with a fresh reading, and never written.
+pub fn sort(
+    mode: Mode,
+    text: &[u8],
+    records: &[u32],
+    reals: &[f64],
+    out: &mut [u8],
+) -> Result<usize, Refusal>
+    ensures { Sorts mode text.now records.now reals.now out.old (answer_of result) out.new }
+{
+    let sorted = put_checked(mode, text, records, reals, out);
+    writer::clear_unused(out, sorted)
 }

@@ -15,7 +15,7 @@ use Rattle.statement.specs.declared.Phase.{Phase}
 use Rattle.statement.specs.declared.Seen.{Seen}
 use Rattle.statement.specs.declared.State.{State}
 use Rattle.statement.specs.declared.Phase.TheVariants as is
-use Rattle.statement.specs.declared.Step.TheVariants as to
+use Rattle.statement.specs.Step as to
 
 module _ (w : Bytes) (room : ℕ) (s : State) (v : Seen) where
   -- the modifier: d is the draft, q whether the word is `void`

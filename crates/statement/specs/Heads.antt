@@ -9,9 +9,9 @@ use Rattle.statement.specs.declared.Draft.{Draft}
 use Rattle.statement.specs.declared.Phase.{Phase}
 use Rattle.statement.specs.declared.Seen.{Seen}
 use Rattle.statement.specs.declared.State.{State}
-use Rattle.statement.specs.declared.Step.{Step}
+use Rattle.statement.specs.Step.{Step}
 use Rattle.statement.specs.declared.Phase.TheVariants as is
-use Rattle.statement.specs.declared.Step.TheVariants as to
+use Rattle.statement.specs.Step as to
 
 -- the statement goes on: the next phase, how many words of its kind come after it, and the draft
 abbrev pub going_to : State → Phase → ℕ → Draft → Step

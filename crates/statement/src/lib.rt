@@ -2,13 +2,16 @@
 #![tactic(auto)]
 
 ghost use Rattle.std.specs.Prelude.{◌≡◌};
+ghost use Rattle.scene.specs.Reason.{reason_number};
 ghost use Rattle.statement.specs.Heads.{going_to, kind_step, modifier_step, name_step, target_step, with_name, with_target};
 ghost use Rattle.statement.specs.States.{between, clipped, counted_in, is_idle, moved_to, opened, opening_of};
+ghost use Rattle.statement.specs.Step as step;
+ghost use Rattle.statement.specs.Step.{as_step};
 
-use scene::Mode;
+use scene::{Mode, Reason, Refusal};
 
 // What the next word is.
-#[derive(Clone, Copy)]
+#[derive(Clone, Copy, PartialEq, Eq, Debug)]
 pub enum Phase {
     Idle,
     Kind,
@@ -74,12 +77,12 @@ pub enum Step {
     Real(State, f64),
     Last(State, f64),
     Complete(State),
-    Refused(u32, usize),
+    Refused(Refusal),
     Ended,
 }
 
 // What a byte opens that is no blank.
-#[derive(Clone, Copy)]
+#[derive(Clone, Copy, PartialEq, Eq, Debug)]
 pub enum Opening {
     Comment,
     Command,
@@ -122,100 +125,95 @@ pub fn between(at: usize, count: usize, used: usize, looked: u32) -> State
 pub fn moved(s: State, at: usize) -> State
     ensures { result ≡ moved_to s at }
 {
-    let mut t = s;
-    t.at = at;
-    t
+    State { at, ..s }
 }
 
 // A number that a record can hold: those past the largest count as the largest.
 pub fn narrow(n: usize) -> u32
     ensures { result ≡ clipped n }
 {
-    lexer::least(n, 4294967295) as u32
-}
-
-fn wide(n: u32) -> usize
-    ensures { result ≡ n }
-{
-    n as usize
+    u32::try_from(n).unwrap_or(u32::MAX)
 }
 
 // A state with more entries of the index looked at.
 pub fn counted(s: State, looked: u32) -> State
     ensures { result ≡ counted_in s looked }
 {
-    let mut t = s;
-    t.looked = narrow(wide(s.looked) + wide(looked));
-    t
+    State {
+        looked: narrow(s.looked as usize + looked as usize),
+        ..s
+    }
 }
 
 // Whether no statement is open.
 pub fn is_idle(phase: Phase) -> bool
     ensures { result ≡ is_idle phase }
 {
-    if let Phase::Idle = phase { true } else { false }
+    matches!(phase, Phase::Idle)
 }
 
 // Only where a statement may begin are `#` and `!` more than ordinary bytes.
 pub fn opens(phase: Phase, b: u8) -> Opening
     ensures { result ≡ opening_of phase b }
 {
-    if is_idle(phase) {
-        if b == b'#' {
-            return Opening::Comment;
-        }
-        if b == b'!' {
-            return Opening::Command;
-        }
+    if !is_idle(phase) {
         return Opening::Word;
     }
-    Opening::Word
+    match b {
+        b'#' => Opening::Comment,
+        b'!' => Opening::Command,
+        _ => Opening::Word,
+    }
+}
+
+// The text is refused at a place.
+pub fn refused(reason: Reason, place: usize) -> Step
+    ensures { as_step result ≡ step.Refused (reason_number reason) place }
+{
+    Step::Refused(Refusal { reason, place })
 }
 
 // The statement goes on.
 pub fn going(s: State, phase: Phase, left: u32, draft: Draft) -> Step
-    ensures { result ≡ going_to s phase left draft }
+    ensures { as_step result ≡ going_to s phase left draft }
 {
     Step::Going(State {
-        at: s.at,
-        count: s.count,
-        used: s.used,
         left,
-        looked: s.looked,
         phase,
         draft,
+        ..s
     })
 }
 
 pub fn modifier(word: &[u8], room: usize, s: State, v: Seen) -> Step
-    ensures { result ≡ modifier_step word.now room s v }
+    ensures { as_step result ≡ modifier_step word.now room s v }
 {
     if s.count < room {
         if lexer::same(word, b"void") {
             return going(s, Phase::Kind, 0, linked(0));
         }
         if v.found == 0 {
-            return Step::Refused(7, v.place);
+            return refused(Reason::UnknownModifier, v.place);
         }
         return going(s, Phase::Kind, 0, linked(v.found));
     }
-    Step::Refused(6, v.place)
+    refused(Reason::NoRoomForRecord, v.place)
 }
 
 pub fn kind(word: &[u8], mode: Mode, s: State, v: Seen) -> Step
-    ensures { result ≡ kind_step word.now mode s v }
+    ensures { as_step result ≡ kind_step word.now mode s v }
 {
-    let mut d = s.draft;
     if lexer::same(word, b"alias") {
-        return going(s, Phase::AliasName, 0, d);
+        return going(s, Phase::AliasName, 0, s.draft);
     }
     let t = type_names::type_number(word);
     if t == 0 {
-        return Step::Refused(8, v.place);
+        return refused(Reason::UnknownType, v.place);
     }
     if kinds::is_retired(mode, t) {
-        return Step::Refused(28, v.place);
+        return refused(Reason::RetiredType, v.place);
     }
+    let mut d = s.draft;
     d.kind = t;
     going(s, Phase::Name, 0, d)
 }
@@ -223,47 +221,43 @@ pub fn kind(word: &[u8], mode: Mode, s: State, v: Seen) -> Step
 fn named(d: Draft, v: Seen) -> Draft
     ensures { result ≡ with_name d v.name v.size }
 {
-    let mut t = d;
-    t.name = v.name;
-    t.size = v.size;
-    t
+    Draft {
+        name: v.name,
+        size: v.size,
+        ..d
+    }
 }
 
 pub fn name(next: Phase, word: &[u8], s: State, v: Seen) -> Step
-    ensures { result ≡ name_step next word.now s v }
+    ensures { as_step result ≡ name_step next word.now s v }
 {
     if lexer::same(word, b"void") {
-        return Step::Refused(9, v.place);
+        return refused(Reason::NameIsVoid, v.place);
     }
-    let d = s.draft;
-    going(s, next, 0, named(d, v))
+    going(s, next, 0, named(s.draft, v))
 }
 
 // An alias has type, strings and reals of its target.
 fn of_target(d: Draft, v: Seen) -> Draft
     ensures { result ≡ with_target d v }
 {
-    let o = v.source;
     Draft {
-        kind: o.kind,
         modifier: d.modifier,
         target: v.found,
         name: d.name,
         size: d.size,
-        string: o.string,
-        strings: o.strings,
-        real: o.real,
-        reals: o.reals,
+        ..v.source
     }
 }
 
 pub fn target(s: State, v: Seen) -> Step
-    ensures { result ≡ target_step s v }
+    ensures { as_step result ≡ target_step s v }
 {
     if v.found == 0 {
-        return Step::Refused(10, v.place);
+        return refused(Reason::UnknownTarget, v.place);
     }
-    let mut t = s;
-    t.draft = of_target(s.draft, v);
-    Step::Complete(t)
+    Step::Complete(State {
+        draft: of_target(s.draft, v),
+        ..s
+    })
 }

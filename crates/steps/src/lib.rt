@@ -6,7 +6,7 @@ ghost use Rattle.std.specs.Float.Ieee.Scale.{finite};
 ghost use Rattle.steps.specs.Step.{step};
 ghost use Rattle.steps.specs.Vectors.{along, dot, finite_vector, minus};
 
-#[derive(Clone, Copy)]
+#[derive(Clone, Copy, PartialEq, Debug)]
 pub struct Vector {
     pub x: f64,
     pub y: f64,
@@ -16,14 +16,13 @@ pub struct Vector {
 pub fn is_finite(x: f64) -> bool
     ensures { result ≡ finite x }
 {
-    let top = 1.0 / 0.0;
-    (-top < x) & (x < top)
+    x.is_finite()
 }
 
 pub fn step(x: f64) -> f64
     ensures { result ≡ step x }
 {
-    if is_finite(x) { x } else { 0.0 / 0.0 }
+    if is_finite(x) { x } else { f64::NAN }
 }
 
 pub fn is_finite_vector(v: Vector) -> bool

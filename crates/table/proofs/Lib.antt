@@ -1,3 +1,4 @@
 pub mod QuestionLaws
 pub mod ImageLaws
 pub mod NumberLaws
+pub mod RefusalLaws

@@ -6,9 +6,9 @@ ghost use Rattle.scene.specs.HouseRules.{zero_real};
 ghost use Rattle.scene.specs.Record.{field_in, name_in, record_in, settings_for, width};
 ghost use Rattle.scene.specs.Told.{reals_of};
 ghost use Rattle.table.specs.Number.{number_in};
-ghost use Rattle.table.specs.Question.{number_refusal};
+ghost use Rattle.table.specs.Question.{number_refusal, refusal_number};
 
-use scene::{Mode, Settings};
+use scene::{Mode, Reason, Settings};
 
 // How many numbers a record has.
 pub const WIDTH: usize = 11;
@@ -52,51 +52,39 @@ pub fn settings_for(mode: Mode, numbers: usize, reals: usize) -> Settings
 {
     Settings {
         mode,
-        records: lexer::least(MOST_RECORDS, numbers / WIDTH),
-        reals: lexer::least(MOST_REALS, reals),
+        records: MOST_RECORDS.min(numbers / WIDTH),
+        reals: MOST_REALS.min(reals),
     }
 }
 
 // Number k, from 0, of record n, from 1; 0 where there is none.
+#[tactic(auto, unfolding(scene::specs::Record::field_in))]
 pub fn field(records: &[u32], n: usize, k: usize) -> u32
     ensures { result ≡ field_in records.now n k }
 {
-    if n == 0 {
+    if (n == 0) | (WIDTH <= k) {
         return 0;
     }
-    if WIDTH <= k {
-        return 0;
-    }
-    let row = n - 1;
-    if records.len() / WIDTH < row {
-        return 0;
-    }
-    let at = row * WIDTH;
-    if records.len() <= at {
-        return 0;
-    }
-    if records.len() - at <= k {
-        return 0;
-    }
-    records[at + k]
+    let at = (n - 1).saturating_mul(WIDTH).saturating_add(k);
+    records.get(at).copied().unwrap_or(0)
 }
 
 // Number n of a list, from 1; 0 where there is none.
+#[tactic(auto, unfolding(crate::specs::Number::number_in))]
 pub fn number_at(numbers: &[usize], n: usize) -> usize
     ensures { result ≡ number_in numbers.now n }
 {
     if n == 0 {
         return 0;
     }
-    let i = n - 1;
-    if i < numbers.len() { numbers[i] } else { 0 }
+    numbers.get(n - 1).copied().unwrap_or(0)
 }
 
 // Real number i, from 0; 0 where the table has none.
 pub fn real_at(reals: &[f64], i: usize) -> f64
     ensures { result ≡ get_or reals.now i zero_real }
 {
-    if i < reals.len() { reals[i] } else { 0.0 }
+    reals.get(i).copied().unwrap_or(0.0)
 }
 
 // The reals of record n: those of them that the table has.
@@ -105,8 +93,8 @@ pub fn reals_of<'a>(records: &[u32], reals: &'a [f64], n: usize) -> &'a [f64]
 {
     let first = field(records, n, REAL) as usize;
     let many = field(records, n, REALS) as usize;
-    let start = lexer::least(first, reals.len());
-    let end = start + lexer::least(many, reals.len() - start);
+    let start = first.min(reals.len());
+    let end = start + many.min(reals.len() - start);
     &reals[start..end]
 }
 
@@ -125,48 +113,35 @@ pub fn name_of<'a>(text: &'a [u8], records: &[u32], n: usize) -> &'a [u8]
 pub fn first_records<'a>(records: &'a [u32], count: usize) -> &'a [u32]
     ensures { result.now ≡ take (min count (length records.now / width) * width) records.now }
 {
-    let end = lexer::least(count, records.len() / WIDTH) * WIDTH;
-    &records[0..end]
+    let end = count.min(records.len() / WIDTH) * WIDTH;
+    &records[..end]
 }
 
-// Why a primitive cannot be asked about: 18 for the count, then 17 for the number; else 0.
-pub fn number_refusal(records: &[u32], count: usize, number: usize) -> u32
-    ensures { result ≡ number_refusal records.now count number }
+// Whether a primitive can be asked about: the count is tested first, then the number.
+#[tactic(auto, unfolding(crate::specs::Question::number_refusal))]
+pub fn number_refusal(records: &[u32], count: usize, number: usize) -> Result<(), Reason>
+    ensures { refusal_number result ≡ number_refusal records.now count number }
 {
     if MOST_RECORDS < count {
-        return 18;
+        return Err(Reason::BadTable);
     }
     if records.len() < count * WIDTH {
-        return 18;
+        return Err(Reason::BadTable);
     }
     if number == 0 {
-        return 17;
+        return Err(Reason::NoSuchPrimitive);
     }
     if count < number {
-        return 17;
+        return Err(Reason::NoSuchPrimitive);
     }
-    0
+    Ok(())
 }
 
 // Zeroes a table of numbers.
 pub fn clear_numbers(numbers: &mut [u32])
     ensures { numbers.new ≡ replicate (length numbers.old) 0 }
 {
-    let mut i = 0;
-    while i < numbers.len() {
-        numbers[i] = 0;
-        i += 1;
-    }
-}
-
-fn clear_reals(reals: &mut [f64])
-    ensures { reals.new ≡ replicate (length reals.old) zero_real }
-{
-    let mut i = 0;
-    while i < reals.len() {
-        reals[i] = 0.0;
-        i += 1;
-    }
+    numbers.fill(0);
 }
 
 // Zeroes both tables.
@@ -174,8 +149,8 @@ pub fn clear(records: &mut [u32], reals: &mut [f64])
     ensures records_after { records.new ≡ replicate (length records.old) 0 }
     ensures reals_after { reals.new ≡ replicate (length reals.old) zero_real }
 {
-    clear_numbers(records);
-    clear_reals(reals);
+    records.fill(0);
+    reals.fill(0.0);
 }
 
 // Zeroes both tables and an index.
@@ -185,5 +160,5 @@ pub fn clear_all(records: &mut [u32], reals: &mut [f64], index: &mut [u32])
     ensures index_after { index.new ≡ replicate (length index.old) 0 }
 {
     clear(records, reals);
-    clear_numbers(index);
+    index.fill(0);
 }

@@ -8,14 +8,12 @@ ghost use Rattle.ties.specs.Ties.{bound_rows, class_of, classes_to, gives_in, gi
 fn class_of(text: &[u8], records: &[u32], n: usize) -> usize
     ensures { result ≡ class_of text.now records.now n }
 {
-    let mut m = 0;
-    while m < n {
-        m += 1;
+    for m in 0..n {
         if lexer::same(
-            table::name_of(text, records, m),
+            table::name_of(text, records, m + 1),
             table::name_of(text, records, n),
         ) {
-            return m;
+            return m + 1;
         }
     }
     0
@@ -25,10 +23,8 @@ fn class_of(text: &[u8], records: &[u32], n: usize) -> usize
 pub fn classes(text: &[u8], records: &[u32], classes: &mut [usize])
     ensures { classes.new ≡ classes_to text.now records.now (length classes.old) }
 {
-    let mut i = 0;
-    while i < classes.len() {
-        classes[i] = class_of(text, records, i + 1);
-        i += 1;
+    for (i, class) in classes.iter_mut().enumerate() {
+        *class = class_of(text, records, i + 1);
     }
 }
 

@@ -1,4 +1,2 @@
-pub mod CopyLaws
 pub mod NameLaws
 pub mod PackLaws
-pub mod RowLaws

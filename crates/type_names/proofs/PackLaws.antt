@@ -7,10 +7,10 @@ use native.Mathlib.Numerals.{add-one}
 use native.Mathlib.Omega.{arith}
 use borrow.Author.Tests.{lt-leb}
 use lib.ListN.{length, take, get_or}
-use lib.Seq.{take_all, take-suc}
+use lib.Seq.{take-suc}
 use Rattle.laws.specs.Bytes.{Bytes}
 use Rattle.scene.specs.Types.{type_number}
-use Rattle.type_names.specs.Rows.{unpacked}
+use Rattle.type_names.specs.Packed.{unpacked}
 
 unpacked_none : (n : ℕ) → unpacked n 1 ≡ []
 unfolding unpacked
@@ -59,12 +59,6 @@ module _ (w : Bytes) (s : length w ≤ 7) where
               ∙ sym (take-suc w i 0 l)
               ∙ ap (λ (j : ℕ). take j w) (sym (add-one i));
         }
-
-    pub packed_all : length w ≤ i → unpacked 7 k ≡ w
-    packed_all l =
-        (let v = p.within in let n : 7 ≡ 7 - length w + i = omega arith in ap (λ (j : ℕ). unpacked j k) n)
-        ∙ p.word
-        ∙ take_all i w l
 
 -- words of one number are one type's
 pub packed_type : {w : Bytes} {r k : ℕ} → unpacked 7 r ≡ w → r ≡ k → type_number (unpacked 7 k) ≡ type_number w

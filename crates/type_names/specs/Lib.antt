@@ -1,4 +1,2 @@
--- To be believed.
-pub mod Names
 -- Inner models of the proofs.
-pub mod Rows
+pub mod Packed

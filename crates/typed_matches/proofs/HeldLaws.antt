@@ -1,13 +1,12 @@
 -- The matches of an order, one by one.
 use mathlib.Core.Bool.{Bool, true, false, not, ◌&&◌}
-use mathlib.Core.List.{List}
-use mathlib.Core.Path.{◌≡◌, ap, sym, ◌∙◌}
-use Prim.Native.Nat.{ℕ, suc, ◌+◌, ◌-◌, ◌/◌, ◌≤◌, ◌<◌}
-use native.Mathlib.Omega.{arith}
+use mathlib.Core.List.{List, [], ◌∷◌}
+use mathlib.Core.Path.{◌≡◌, refl, ap, sym, ◌∙◌}
+use Prim.Native.Nat.{ℕ, ◌-◌, ◌/◌, ◌≤◌, ◌<◌}
 use borrow.Author.Tests.{eq-eqb, ne_eqb, not-false, not-true}
 use lib.Dec.{eqb}
-use lib.ListN.{drop, drop_of_length-le, get_or, length}
-use lib.Seq.{drop-cons}
+use lib.ListN.{length}
+use Rattle.std.specs.List.{list_all}
 use Rattle.arranging.proofs.BothLaws.{either_left, either_right}
 use Rattle.arranging.specs.Both.{either}
 use Rattle.join_meaning.specs.Written.{all_equal}
@@ -27,31 +26,14 @@ module _ (R L : List ℕ) (n : ℕ) where
   pub match_left : length R < n → number_in L (n - length R) ≡ either (length R) (number_in R) (number_in L) n
   match_left h = sym (either_left (length R) (number_in R) (number_in L) n h)
 
-module _ (R L order : List ℕ) (i : ℕ) where
-  abbrev here : Bool
-  here = is_equal (either (length R) (number_in R) (number_in L) (get_or order i 0))
+-- each number tested
+each : (R L order : List ℕ) → list_all (λ n. is_equal (either (length R) (number_in R) (number_in L) n)) order ≡ all_equal R L order
+unfolding all_equal
+each R L [] = refl
+each R L (n ∷ order) = ap (λ (b : Bool). is_equal (either (length R) (number_in R) (number_in L) n) && b) (each R L order)
 
-  abbrev from : ℕ → Bool
-  from k = all_equal R L (drop k order)
-
-  one_more : i < length order → from i ≡ (here && from (i + 1))
-  unfolding all_equal
-  one_more h = ap (all_equal R L) (drop-cons order i 0 h) ∙ (let m : suc i ≡ i + 1 = omega arith in ap (λ (k : ℕ). here && from k) m)
-
-  module _ (so_far : all_equal R L order ≡ from i) where
-    pub all_tested : length order ≤ i → true ≡ all_equal R L order
-    unfolding all_equal
-    all_tested h = sym (so_far ∙ ap (all_equal R L) (drop_of_length-le order {i = i} h))
-
-    module _ (h : i < length order) (n : ℕ) (e : n ≡ either (length R) (number_in R) (number_in L) (get_or order i 0)) (t : Bool) (f : t ≡ is_equal n) where
-      tested : all_equal R L order ≡ (t && from (i + 1))
-      tested = so_far ∙ one_more h ∙ ap (λ (b : Bool). b && from (i + 1)) (sym (f ∙ ap is_equal e))
-
-      pub one_unequal : not t ≡ true → false ≡ all_equal R L order
-      one_unequal u = sym (tested ∙ ap (λ (b : Bool). b && from (i + 1)) (not-true t u))
-
-      pub one_equal : not t ≡ false → all_equal R L order ≡ from (i + 1)
-      one_equal u = tested ∙ ap (λ (b : Bool). b && from (i + 1)) (not-false t u)
+pub all_tested : (R L order : List ℕ) (r : Bool) → r ≡ list_all (λ n. is_equal (either (length R) (number_in R) (number_in L) n)) order → r ≡ all_equal R L order
+all_tested R L order r e = e ∙ each R L order
 
 -- ---- the whole test
 

@@ -25,14 +25,7 @@ fn match_at(right_matches: &[usize], left_matches: &[usize], n: usize) -> usize
 fn all_equal(right_matches: &[usize], left_matches: &[usize], order: &[usize]) -> bool
     ensures { result ≡ all_equal right_matches.now left_matches.now order.now }
 {
-    let mut i = 0;
-    while i < order.len() {
-        if !picking::is_equal(match_at(right_matches, left_matches, order[i])) {
-            return false;
-        }
-        i += 1;
-    }
-    true
+    order.iter().all(|n| picking::is_equal(match_at(right_matches, left_matches, *n)))
 }
 
 // Whether the scene holds these and no more: each name once, as many, and each defined alike.

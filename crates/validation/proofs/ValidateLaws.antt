@@ -9,9 +9,7 @@ use lib.ListN.{length, replicate}
 use Rattle.graph.specs.Answers.{lowest_loop}
 use Rattle.graph.specs.Graph.{Graph, graph_of}
 use Rattle.laws.specs.Bytes.{Bytes}
-use Rattle.validation.specs.Validated.{Loops, Validates, loop_told, told_as}
-use Rattle.validation.specs.declared.Validity.{Validity}
-use Rattle.validation.specs.declared.Validity.TheVariants.{Refused, Valid}
+use Rattle.validation.specs.Validated.{Loops, Refused, Valid, Validates, Validity, loop_told, told_as}
 use Rattle.loops.specs.Found.{Finds}
 use Rattle.mixtures.specs.Walk.{Within}
 use Rattle.resolver.proofs.ResolveLaws.{plain_loopless, resolved_pairs, resolved_unknown}

@@ -1,17 +1,27 @@
 -- What is told of the mixtures of a text that is read: over tables that hold what reading it left.
-use Rattle.std.specs.Prelude.{List, ◌≡◌, ℕ, zero, suc, ◌+◌, ◌*◌, ◌≤◌, length, replicate}
+use Rattle.std.specs.Prelude.{List, ◌≡◌, ℕ, zero, suc, ◌+◌, ◌*◌, ◌≤◌, length, replicate, Result, Ok, Err}
 use Rattle.graph.specs.Answers.{lowest_loop}
 use Rattle.graph.specs.Graph.{graph_of}
 use Rattle.laws.specs.Bytes.{Bytes}
-use Rattle.validation.specs.declared.Validity.{Validity}
-use Rattle.validation.specs.declared.Validity.TheVariants.{Refused, Valid}
 use Rattle.mixtures.specs.Walk.{Within}
 use Rattle.resolver.specs.Code.{Stored}
+use Rattle.scene.specs.Reason.{reason_number}
 use Rattle.scene.specs.Reading.{Entry, Reading, accepted, refused}
 use Rattle.scene.specs.Record.{field_in}
+use Rattle.scene.specs.declared.Refusal.{Refusal}
 use Rattle.scene.specs.declared.Settings.{Settings}
 use Rattle.sides.specs.Read.{mixed}
 use Rattle.sides.specs.Sides.{pair_image}
+
+-- every mixture is in order, or one is refused with the number of a reason and a place
+pub data Validity : Type 0 where
+  Valid : Validity
+  Refused : (reason place : ℕ) → Validity
+
+-- what the code answers
+abbrev pub validity_of : Result Unit Refusal → Validity
+validity_of (Ok u) = Valid
+validity_of (Err r) = Refused (reason_number r.reason) r.place
 
 -- primitive n is the lowest on a loop, 0 for none
 abbrev pub loop_told : (records : List ℕ) → ℕ → Validity

@@ -17,7 +17,7 @@ use Rattle.lexer.proofs.WordLaws.{place_least, end_most}
 use Rattle.lexer.specs.Class.{is_blank, is_other}
 use Rattle.lexer.specs.Word.{word_at, word_end}
 use Rattle.lexer.specs.declared.Word.{Word}
-use Rattle.word_reader.specs.Words.{words_from, words_in, handed_out}
+use Rattle.word_reader.specs.Words.{words_from, words_in, words_left, handed_out}
 
 other : (b : ℕ) → is_blank b ≡ false → is_other b ≡ true
 unfolding is_other
@@ -125,6 +125,29 @@ module _ (text : Bytes) (at : ℕ) where
       let split = drop-cons text p 0 h in
       subst (λ (xs : Bytes). words_from false p xs ≡ starts_at p xs ∷ onward p xs (run is_other xs)) (sym split) (word_first _ _ p (starts_other h))
       ∙ ap (λ (xs : Bytes). word_at text at ∷ words_from false (word_end text at) xs) (drop-drop (run is_other (drop p text)) p text)
+
+-- what is left from a place on: nothing where the word there is empty, else the word and what is left behind it
+module _ (text : Bytes) (at : ℕ) where
+  left_at_end : length text ≤ (word_at text at).place → words_left text at ≡ []
+  left_at_end h = go (le_or_lt at (length text))
+    where
+      go : (at ≤ length text) ⊎ (length text < at) → words_left text at ≡ []
+      go (inl l) = from_word text at l ∙ ap (words_from false (word_at text at).place) (drop_of_length-le text h) ∙ no_bytes false (word_at text at).place
+      go (inr l) = ap (words_from false at) (drop_of_length-le text {i = at} (omega arith)) ∙ no_bytes false at
+
+  pub none_left : (word_at text at).len ≡ 0 → words_left text at ≡ []
+  none_left e = go (le_or_lt (length text) (word_at text at).place)
+    where
+      go : (length text ≤ (word_at text at).place) ⊎ ((word_at text at).place < length text) → words_left text at ≡ []
+      go (inl h) = left_at_end h
+      go (inr h) = absurd (omega (arith, has_byte_lem text at h, e))
+
+  pub one_left : 0 < (word_at text at).len → words_left text at ≡ word_at text at ∷ words_left text (word_end text at)
+  one_left e = go (le_or_lt (length text) (word_at text at).place)
+    where
+      go : (length text ≤ (word_at text at).place) ⊎ ((word_at text at).place < length text) → words_left text at ≡ word_at text at ∷ words_left text (word_end text at)
+      go (inl h) = absurd (omega (arith, last_word text at h, e))
+      go (inr h) = from_word text at (omega (arith, place_least text at, h)) ∙ word_then text at h
 
 -- from any place on, and for any number that is enough
 handed_from : (most : ℕ) (text : Bytes) (at : ℕ) → at ≤ length text → length text ≤ at + most → handed_out most text at ≡ words_from false at (drop at text)

@@ -1,5 +1,5 @@
 -- The words of a text in order, and what a word reader hands out.
-use Rattle.std.specs.Prelude.{Bool, false, ◌&&◌, not, cond, List, [], ◌∷◌, ℕ, zero, suc, eqb}
+use Rattle.std.specs.Prelude.{Bool, false, ◌&&◌, not, cond, List, [], ◌∷◌, ℕ, zero, suc, eqb, drop}
 use Rattle.laws.specs.Bytes.{Bytes}
 use Rattle.laws.specs.Runs.{run}
 use Rattle.lexer.specs.Class.{is_other}
@@ -25,3 +25,7 @@ handed_out zero text at = []
 handed_out (suc most) text at =
     let later = handed_out most text (word_end text at) in
     cond (eqb (word_at text at).len 0) [] (word_at text at ∷ later)
+
+-- the words that are left from a place on
+abbrev pub words_left : Bytes → ℕ → List Word
+words_left text at = words_from false at (drop at text)

@@ -3,7 +3,9 @@
 #![tactic(auto)]
 
 ghost use Rattle.std.specs.Prelude.{◌≡◌};
+ghost use Rattle.std.specs.Iterator.{YieldsFirst, item_count};
 ghost use Rattle.lexer.specs.Word.{word_at, word_bytes, word_end};
+ghost use Rattle.word_reader.specs.Words.{words_left};
 
 use lexer::Word;
 
@@ -14,6 +16,7 @@ pub struct WordReader<'a> {
     pub at: usize,
 }
 
+// Functions and no methods: `new` to `next_from` are the names that the pages promise and the host's crate calls.
 // A reader at the start of a text.
 pub fn new<'a>(text: &'a [u8]) -> WordReader<'a>
     ensures { (result.text ≡ text.entry) × (result.at ≡ 0) }
@@ -57,4 +60,22 @@ pub fn next_from(text: &[u8], at: usize) -> Word
     ensures { result ≡ word_at text.now at }
 {
     next(WordReader { text, at })
+}
+
+// The words of a text, one after the other, up to the empty word at its end.
+impl Iterator for WordReader<'_> {
+    type Item = Word;
+
+    ghost next_gives = { YieldsFirst (λ r. words_left r.text.now r.at) };
+
+    ghost remaining = { item_count (λ r. words_left r.text.now r.at) };
+
+    fn next(&mut self) -> Option<Word> {
+        let word = next(*self);
+        if word.len == 0 {
+            return None;
+        }
+        *self = moved(*self);
+        Some(word)
+    }
 }

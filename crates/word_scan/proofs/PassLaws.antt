@@ -17,8 +17,7 @@ use Rattle.laws.specs.Runs.{all, past, run}
 use Rattle.lexer.proofs.CheckedLaws.{good_word}
 use Rattle.lexer.proofs.ClassLaws.{blank_not_good}
 use Rattle.lexer.specs.Class.{is_blank, is_good, is_in_line, is_other}
-use Rattle.lexer.specs.Word.{checked_at, ends_word, word_at, word_bytes}
-use Rattle.lexer.specs.declared.Checked.{Checked}
+use Rattle.lexer.specs.Word.{Checked, checked_at, ends_word, word_at, word_bytes}
 use Rattle.numeral.specs.Count.{count_of}
 use Rattle.numeral_parts.proofs.DigitLaws.{digit_high, digit_low}
 use Rattle.numeral_parts.specs.Digits.{digits, is_digit, value_from}
@@ -110,9 +109,6 @@ module _ (text : Bytes) (at place end : ℕ) (p : place ≡ past is_blank text a
 
 -- ---- what is answered
 
-pub not_good : {A : Type 0} {b : Bool} → b ≡ false → b ≡ true → A
-not_good e h = absurd (false≢true (sym e ∙ h))
-
 -- the run of good bytes
 module _ (text : Bytes) (at place end : ℕ) (p : place ≡ past is_blank text at) (q : end ≡ past is_good text place) where
   pub run_within : (place ≤ end) × (end ≤ length text)
@@ -122,7 +118,7 @@ module _ (text : Bytes) (at place end : ℕ) (p : place ≡ past is_blank text a
   run_good = let n : end - place ≡ run is_good (drop place text) = omega (arith, q, past_run is_good text place (omega (arith, run_within))) in ap (λ (k : ℕ). all is_good (take k (drop place text))) n ∙ run_all is_good (drop place text)
 
   pub word_passes : (end - place ≡ 0 → ⊥) → end - place ≤ 64 → ends_word text end ≡ true → (before lines : ℕ) → line_at text at + before ≡ line_at text place → line_at text end + lines ≡ line_at text (end + 1)
-      → PassesWord text at (record { good = true; place = place; len = end - place; next = end + 1; before = before; lines = before + lines })
+      → PassesWord text at (record { place = place; len = end - place; next = end + 1; before = before; lines = before + lines })
   word_passes filled short e before lines b n =
       let s : place < end = omega (arith, run_within) in
       let l = run_within.1 in
@@ -156,7 +152,7 @@ module _ (text : Bytes) (at place : ℕ) (p : place ≡ past is_blank text at) (
   all_good = ap (all is_good) (one_byte text place l) ∙ rw (digit_good (get_or text place 0) d)
 
   pub digit_passes : (before lines value : ℕ) → line_at text at + before ≡ line_at text place → line_at text (place + 1) + lines ≡ line_at text (place + 1 + 1) → value ≡ get_or text place 0 - 48
-      → PassesCount text at (record { good = true; value = value; next = place + 1 + 1; lines = before + lines })
+      → PassesCount text at (record { value = value; next = place + 1 + 1; lines = before + lines })
   digit_passes before lines value b n v =
       let short : place + 1 - place ≤ 64 = omega arith in
       record {
@@ -165,16 +161,15 @@ module _ (text : Bytes) (at place : ℕ) (p : place ≡ past is_blank text at) (
       }
 
 -- a longer count
-pub long_passes : (text : Bytes) (at : ℕ) (w : Passed) (n : ℕ) (b : Bytes) → (w.good ≡ true → PassesWord text at w) → b ≡ part text w.place w.len → some n ≡ count_of b
-    → w.good ≡ true → PassesCount text at (record { good = w.good; value = n; next = w.next; lines = w.lines })
-long_passes text at w n b f q c h =
-    let W = f h in
+pub long_passes : (text : Bytes) (at : ℕ) (w : Passed) (n : ℕ) (b : Bytes) → PassesWord text at w → b ≡ part text w.place w.len → some n ≡ count_of b
+    → PassesCount text at (record { value = n; next = w.next; lines = w.lines })
+long_passes text at w n b W q c =
     record { passes = W.passes; value_is = ap count_of (sym (q ∙ (λ i. part text (W.place_is i) (W.len_is i)))) ∙ sym c }
 
 -- ---- a numeral
 
 pub real_passes : (text : Bytes) (at place : ℕ) → place ≡ past is_blank text at → (n : Scanned) → ReadAt text place n → n.end - place ≤ 64 → (before lines : ℕ) → line_at text at + before ≡ line_at text place → line_at text n.end + lines ≡ line_at text (n.end + 1)
-    → PassesReal text at (record { good = true; value = n.value; next = n.end + 1; lines = before + lines })
+    → PassesReal text at (record { value = n.value; next = n.end + 1; lines = before + lines })
 real_passes text at place p n r short before lines b l = record {
   passes = passes text at place n.end p r.some_bytes r.within r.good_bytes r.ended short before lines b l;
   value_is = ap numeral_of (sym (bytes_are text at place n.end p r.some_bytes r.within r.good_bytes r.ended short)) ∙ r.value_is;
@@ -216,7 +211,7 @@ module _ (text : Bytes) (at place end : ℕ) (p : place ≡ past is_blank text a
       let other : is_blank (get_or text (past is_blank text at) 0) ≡ false = past_fails is_blank text at 0 (omega (arith, p)) in
       omega (arith, ap (run is_other) (drop-cons text (past is_blank text at) 0 (omega (arith, p))), run_more is_other (get_or text (past is_blank text at) 0) (drop (suc (past is_blank text at)) text) (ap not other))
 
-  pub comment_passes : get_or text place 0 ≡ 35 → (before lines : ℕ) → line_at text at + before ≡ line_at text place → line_at text end + lines ≡ line_at text (end + 1) → PassesComment text at (record { good = true; next = end + 1; lines = before + lines })
+  pub comment_passes : get_or text place 0 ≡ 35 → (before lines : ℕ) → line_at text at + before ≡ line_at text place → line_at text end + lines ≡ line_at text (end + 1) → PassesComment text at (record { next = end + 1; lines = before + lines })
   unfolding word_at
   comment_passes o before lines b n = record {
     some_bytes = word_there;

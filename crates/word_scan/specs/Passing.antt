@@ -1,6 +1,6 @@
 -- What is said of a word, a count, a numeral or a comment that was passed.
 use Rattle.std.proofs.Math.Option.{some}
-use Rattle.std.specs.Prelude.{◌≡◌, ℕ, ◌+◌, ◌≤◌, ◌<◌, get_or, length}
+use Rattle.std.specs.Prelude.{◌≡◌, ℕ, ◌+◌, ◌≤◌, ◌<◌, get_or, length, Float}
 use Rattle.laws.specs.Bytes.{Bytes, byte}
 use Rattle.laws.specs.Runs.{past}
 use Rattle.lexer.specs.Class.{is_in_line}
@@ -8,7 +8,6 @@ use Rattle.lexer.specs.Word.{word_at, word_bytes, word_end, word_fault}
 use Rattle.numeral.specs.Count.{count_of}
 use Rattle.numeral.specs.Numeral.{numeral_of, value}
 use Rattle.scene.specs.Record.{line_at}
-use Rattle.word_scan.specs.declared.Counted.{Counted}
 use Rattle.word_scan.specs.declared.Passed.{Passed}
 use Rattle.word_scan.specs.declared.Skipped.{Skipped}
 use Rattle.word_scan.specs.declared.Valued.{Valued}
@@ -28,12 +27,12 @@ pub record PassesWord (text : Bytes) (at : ℕ) (r : Passed) : Type 0 where
   pub lines_before : line_at text at + r.before ≡ line_at text r.place
 
 -- it is a count
-pub record PassesCount (text : Bytes) (at : ℕ) (r : Counted) : Type 0 where
+pub record PassesCount (text : Bytes) (at : ℕ) (r : Valued ℕ) : Type 0 where
   pub passes : Passes text at r.next r.lines
   pub value_is : count_of (word_bytes text at) ≡ some r.value
 
 -- it is a numeral
-pub record PassesReal (text : Bytes) (at : ℕ) (r : Valued) : Type 0 where
+pub record PassesReal (text : Bytes) (at : ℕ) (r : Valued Float) : Type 0 where
   pub passes : Passes text at r.next r.lines
   pub value_is : numeral_of (word_bytes text at) ≡ value r.value
 

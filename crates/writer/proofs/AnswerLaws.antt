@@ -1,22 +1,21 @@
 -- The call's answer and output, from what its parts give.
 use mathlib.Core.Bool.{Bool, true, false, cond}
 use mathlib.Core.List.{List, [], ◌++◌, append-nil}
-use mathlib.Core.Path.{◌≡◌, refl, sym, ap, ap₂, ◌∙◌}
+use mathlib.Core.Path.{◌≡◌, refl, sym, ap, ◌∙◌, subst}
 use Prim.Native.Nat.{ℕ, ◌+◌, ◌-◌, ◌≤◌, min}
 use native.Mathlib.Nat.{sub-zero}
 use native.Mathlib.Omega.{arith}
-use borrow.Author.Tests.{ltb-true, ltb-false, le-leb, lt-leb}
-use lib.Dec.{ltb}
+use borrow.Author.Tests.{ltb-true, ltb-false, le-leb, leb-true, lt-leb}
+use lib.Dec.{leb, ltb}
 use lib.Ieee.{Float}
-use lib.ListN.{length, take, drop, replicate, length-drop, drop_of_length-le}
+use lib.ListN.{length, take, drop, replicate, length-append, length-replicate}
 use lib.Seq.{take_all, take_at}
 use Rattle.bits.specs.Bits.{same_reals}
 use Rattle.buffer.specs.Put.{put}
 use Rattle.fresh.specs.Fresh.{tables_match, fresh_of}
-use Rattle.fresh.specs.declared.Fresh.TheVariants as fresh
+use Rattle.fresh.specs.Fresh as fresh
 use Rattle.laws.proofs.BoolLaws.{and_left}
 use Rattle.laws.proofs.BytesLaws.{same_eq}
-use Rattle.laws.proofs.ListLaws.{rest_of, take_min}
 use Rattle.laws.specs.Bytes.{Bytes}
 use Rattle.lines.proofs.PutsLaws.{puts_length}
 use Rattle.lines.specs.Puts.{Puts}
@@ -33,8 +32,11 @@ use Rattle.sides.proofs.MixedLaws.{resolved}
 use Rattle.sides.specs.Read.{read}
 use Rattle.tidying.specs.Tidy.{tidy}
 use Rattle.writer.specs.Answer as answer
-use Rattle.writer.specs.Answer.{Outcome, refused, fitted, checked, tidied, answered, Writes}
-use Rattle.writer.specs.declared.Answer.TheVariants as call
+use Rattle.writer.specs.Answer.{Answer, Outcome, Refused, Written, refused, fitted, checked, tidied, answer_of, answered, bytes_of, output}
+use Rattle.writer.specs.Left.{Leaves, length_put, used}
+use Rattle.scene.specs.Reason.{reason_number}
+use Rattle.scene.specs.declared.Refusal.{Refusal}
+use Rattle.std.specs.Prelude.{Result, Ok, Err}
 
 -- ---- the comparison of the tables
 
@@ -98,6 +100,13 @@ module _ {out mid t : Bytes} {r : Cursor} (p : Puts out front t r mid) where
     pub end_is : r.at ≡ length t
     end_is = let a : r.at ≡ 0 + min (length t) (length out - 0) = ap (λ (c : Cursor). c.at) p.cursor in omega (arith, fits)
 
+    -- the text stands in front
+    front_put : take (length t) mid ≡ t
+    unfolding put
+    front_put =
+        let whole : mid ≡ t ++ drop (0 + length t) out = p.text ∙ rw (sub-zero, take_all (length out) t fits) in
+        ap (take (length t)) whole ∙ take_at t (drop (0 + length t) out) (length t) refl
+
     -- the text, and zeros in place of what stands behind it
     pub rest_cleared : take r.at mid ++ replicate (length mid - r.at) 0 ≡ filled 0 (length out) t
     unfolding put
@@ -107,34 +116,54 @@ module _ {out mid t : Bytes} {r : Cursor} (p : Puts out front t r mid) where
         let all : take r.at mid ≡ t = ap (take r.at) whole ∙ take_at t (drop (0 + length t) out) r.at (sym end_is) in
         λ i. all i ++ replicate (behind i) 0
 
--- what stands before the code's `&mut out[start..]`, the zeros in it, and behind it nothing
-pub cleared_from : (out : Bytes) (at start : ℕ) → start ≡ min at (length out) → (rest : Bytes) → rest ≡ replicate (length (take (length out - start) (drop start out))) 0 → take start out ++ (rest ++ drop (length out - start) (drop start out)) ≡ take at out ++ replicate (length out - at) 0
-cleared_from out at start s rest z =
-    let none = drop_of_length-le (drop start out) {i = length out - start} (omega (arith, length-drop start out)) in
-    let many : length (take (length out - start) (drop start out)) ≡ length out - at = ap length (rest_of start out) ∙ omega (arith, length-drop start out) in
-    ap₂ (λ (x y : Bytes). x ++ y) (ap (λ (k : ℕ). take k out) s ∙ take_min at out) (ap (λ (x : Bytes). rest ++ x) none ∙ append-nil rest ∙ z ∙ ap (λ (k : ℕ). replicate k 0) many)
+-- ---- what is left
+
+-- a refusal leaves the output as it is
+pub leaves_refused : {o : Outcome} {n p : ℕ} → o ≡ refused n p → {out : Bytes} → Leaves o out (Refused n p) out
+leaves_refused e {out = out} = record { says = ap answered (sym e); size = refl; text = ap (λ (x : Outcome). take (length (bytes_of x)) out) e ∙ ap bytes_of (sym e) }
+
+-- a text put from the front on, as far as it fits
+pub leaves_put : {out mid t : Bytes} {r : Cursor} → Puts out front t r mid → {a : Answer} → a ≡ length_put r → Leaves (fitted (length out) t) out a mid
+leaves_put {out} {mid} {t} {r} p {a} q = go r.full refl
+  where
+    go : (b : Bool) → r.full ≡ b → Leaves (fitted (length out) t) out a mid
+    go true f = subst (λ (o : Outcome). Leaves o out a mid) (sym (too_long p f)) (record { says = q ∙ ap (λ (b : Bool). cond b (Refused 23 0) (Written r.at)) f; size = puts_length p; text = refl })
+    go false f = subst (λ (o : Outcome). Leaves o out a mid) (sym (fitting p f)) (record { says = q ∙ ap (λ (b : Bool). cond b (Refused 23 0) (Written r.at)) f ∙ ap Written (end_is p f); size = puts_length p; text = front_put p f })
+
+-- so does a text with zeros behind it
+pub leaves_filled : {out out' : Bytes} (t : Bytes) {a : Answer} → a ≡ answered (fitted (length out) t) → out' ≡ output (length out) (fitted (length out) t) → Leaves (fitted (length out) t) out a out'
+leaves_filled {out} {out'} t {a} q z = go (leb (length t) (length out)) refl
+  where
+    go : (b : Bool) → leb (length t) (length out) ≡ b → Leaves (fitted (length out) t) out a out'
+    go true f =
+        let o : fitted (length out) t ≡ answer.written t = ap (λ (b : Bool). cond b (answer.written t) (refused 23 0)) f in
+        let full : out' ≡ filled 0 (length out) t = z ∙ ap (output (length out)) o in
+        let fits = leb-true (length t) (length out) f in
+        subst (λ (x : Outcome). Leaves x out a out') (sym o) (record { says = q ∙ ap answered o; size = ap length full ∙ omega (arith, length-append t (replicate (length out - length t) 0), length-replicate {A = ℕ} (length out - length t) 0); text = ap (take (length t)) full ∙ take_at t (replicate (length out - length t) 0) (length t) refl })
+    go false f =
+        let o : fitted (length out) t ≡ refused 23 0 = ap (λ (b : Bool). cond b (answer.written t) (refused 23 0)) f in
+        let zeros : out' ≡ filled 0 (length out) [] = z ∙ ap (output (length out)) o in
+        subst (λ (x : Outcome). Leaves x out a out') (sym o) (record { says = q ∙ ap answered o; size = ap length zeros ∙ length-replicate {A = ℕ} (length out - 0) 0 ∙ sub-zero (length out); text = refl })
+
+-- once the rest is zeroed
+pub left_cleared : (o : Outcome) (out mid : Bytes) (w : Result ℕ Refusal) → Leaves o out (answer_of w) mid → {out' : Bytes} → out' ≡ take (used w) mid ++ replicate (length mid - used w) 0 → out' ≡ output (length out) o
+left_cleared (refused n p) out mid (Ok k) h z = let s = h.says in cc
+left_cleared (refused n p) out mid (Err r) h z = z ∙ ap (λ (k : ℕ). replicate (k - 0) 0) h.size
+left_cleared (answer.written t) out mid (Err r) h z = let s = h.says in cc
+left_cleared (answer.written t) out mid (Ok k) h z =
+    let s = h.says in
+    let e : k ≡ length t = cc in
+    z ∙ (λ i. take (e i) mid ++ replicate (h.size i - e i) 0) ∙ ap (λ (x : Bytes). x ++ replicate (length out - length t) 0) h.text
 
 -- ---- the call
 
 module _ (mode : Mode) (text : Bytes) (table : List ℕ) (doubles : List Float) (out : Bytes) where
-  pub writes_refused : (n p : ℕ) → fresh.Refused n p ≡ fresh_of text table doubles (read_into mode text table doubles) → {out' : Bytes} → out' ≡ filled 0 (length out) [] → Writes mode text table doubles out (call.Refused n p) out'
-  writes_refused n p e z =
-      let o = refused_as (λ es. fitted (length out) (tidy (statements es))) text table doubles (read_into mode text table doubles) n p e in
-      record { says = ap answered (sym o); output = z ∙ ap (answer.output (length out)) (sym o) }
+  pub tidy_refused : (f : Refusal) → fresh.Refused (reason_number f.reason) f.place ≡ fresh_of text table doubles (read_into mode text table doubles) → Leaves (tidied mode text table doubles (length out)) out (Refused (reason_number f.reason) f.place) out
+  tidy_refused f e = leaves_refused (refused_as (λ es. fitted (length out) (tidy (statements es))) text table doubles (read_into mode text table doubles) (reason_number f.reason) f.place e)
 
-  module _ (n : ℕ) (e : fresh.Same n ≡ fresh_of text table doubles (read_into mode text table doubles)) {r : Cursor} {mid : Bytes} (p : Puts out front (record_texts text table n) r mid) where
-    fitted_as : tidied mode text table doubles (length out) ≡ fitted (length out) (record_texts text table n)
-    fitted_as =
-        let R = settings_for mode (length table) (length doubles) in
-        let m = same_as (λ es. fitted (length out) (tidy (statements es))) text table doubles R (read_into mode text table doubles) n refl e in
-        m.outcome ∙ ap (fitted (length out)) (sym (written R text m.entries (length table) m.reads) ∙ (λ i. record_texts text (sym m.own i) (sym m.count i)))
-
-    pub writes_too_long : r.full ≡ true → {out' : Bytes} → out' ≡ filled 0 (length mid) [] → Writes mode text table doubles out (call.Refused 23 0) out'
-    writes_too_long f z =
-        let o = fitted_as ∙ too_long p f in
-        record { says = ap answered (sym o); output = z ∙ ap (λ (k : ℕ). filled 0 k []) (puts_length p) ∙ ap (answer.output (length out)) (sym o) }
-
-    pub writes_all : (f : r.full ≡ false) → {out' : Bytes} → out' ≡ take r.at mid ++ replicate (length mid - r.at) 0 → Writes mode text table doubles out (call.Written r.at) out'
-    writes_all f z =
-        let o = fitted_as ∙ fitting p f in
-        record { says = ap call.Written (end_is p f) ∙ ap answered (sym o); output = z ∙ rest_cleared p f ∙ ap (answer.output (length out)) (sym o) }
+  pub tidy_left : (n : ℕ) → fresh.Same n ≡ fresh_of text table doubles (read_into mode text table doubles) → {r : Cursor} {mid : Bytes} → Puts out front (record_texts text table n) r mid → {a : Answer} → a ≡ length_put r → Leaves (tidied mode text table doubles (length out)) out a mid
+  tidy_left n e {mid = mid} p {a = a} q =
+      let R = settings_for mode (length table) (length doubles) in
+      let m = same_as (λ es. fitted (length out) (tidy (statements es))) text table doubles R (read_into mode text table doubles) n refl e in
+      let o = m.outcome ∙ ap (fitted (length out)) (sym (written R text m.entries (length table) m.reads) ∙ (λ i. record_texts text (sym m.own i) (sym m.count i))) in
+      subst (λ (x : Outcome). Leaves x out a mid) (sym o) (leaves_put p q)

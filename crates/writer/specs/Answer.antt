@@ -1,15 +1,25 @@
 -- What the writing call answers, and what it leaves in the lent output.
-use Rattle.std.specs.Prelude.{cond, List, [], ◌∷◌, ◌≡◌, ℕ, leb, Float, length}
+use Rattle.std.specs.Prelude.{Result, Ok, Err, cond, List, [], ◌∷◌, ◌≡◌, ℕ, leb, Float, length}
 use Rattle.fresh.specs.Fresh.{tables_match}
 use Rattle.laws.specs.Bytes.{Bytes}
 use Rattle.reader.specs.Answer.{read_into}
+use Rattle.scene.specs.Reason.{reason_number}
 use Rattle.scene.specs.Reading as reading
 use Rattle.scene.specs.Reading.{Entry, Reading, accepted, statements}
 use Rattle.scene.specs.Record.{filled}
 use Rattle.scene.specs.declared.Mode.{Mode}
+use Rattle.scene.specs.declared.Refusal.{Refusal}
 use Rattle.tidying.specs.Tidy.{tidy}
-use Rattle.writer.specs.declared.Answer.{Answer}
-use Rattle.writer.specs.declared.Answer.TheVariants.{Written, Refused}
+
+-- the tidy text's length, or a refusal's reason and place
+pub data Answer : Type 0 where
+  Written : (len : ℕ) → Answer
+  Refused : (reason place : ℕ) → Answer
+
+-- what the code answers
+abbrev pub answer_of : Result ℕ Refusal → Answer
+answer_of (Ok n) = Written n
+answer_of (Err r) = Refused (reason_number r.reason) r.place
 
 -- the tidy text, or the reason for refusing and its place
 pub data Outcome : Type 0 where

@@ -1,17 +1,11 @@
 -- `block_text::write_blocks` meets its contract.
 use Rattle.lines.proofs.PutsLaws.{puts_as, puts_more}
-use Rattle.block_text.proofs.BlockLaws.{blocks_too_long, blocks_written, rest_is}
+use Rattle.block_text.proofs.BlockLaws.{blocks_written, rest_is}
 use Rattle.block_text.specs.BlockText.{blocks_in}
 use Rattle.block_text.proofs.write_blocks.Goals as goal
-
-pub returns-then-end : goal.returns-then-end
-returns-then-end c =
-    let a = c.args in
-    let all = puts_as _ (rest_is a.text.now a.ends.now a.order.now c.number_at-rest.ensures c.part.ensures) (puts_more (blocks_in a.text.now a.ends.now a.order.now) _ c.put_blocks-behind_blocks.ensures c.put-end.ensures) in
-    blocks_too_long a.text.now a.ends.now a.order.now all c.if-end.true c.clear_from.ensures
 
 pub returns : goal.returns
 returns c =
     let a = c.args in
     let all = puts_as _ (rest_is a.text.now a.ends.now a.order.now c.number_at-rest.ensures c.part.ensures) (puts_more (blocks_in a.text.now a.ends.now a.order.now) _ c.put_blocks-behind_blocks.ensures c.put-end.ensures) in
-    blocks_written a.text.now a.ends.now a.order.now all c.if-end.false c.clear_from-2.ensures
+    blocks_written a.text.now a.ends.now a.order.now all _ _ c.put_length.ensures c.clear_unused.ensures.value c.clear_unused.ensures.out_after

@@ -1,9 +1,9 @@
--- `blocks::lines_end_lem` meets its contract.
-use Rattle.blocks.proofs.WordLaws.{last_line, last_none}
+-- `blocks::lines_end` meets its contract.
+use Rattle.blocks.proofs.WordLaws.{last_none, last_some}
 use Rattle.blocks.proofs.lines_end.Goals as goal
 
-pub returns-then-text-eq0 : goal.returns-then-text-eq0
-returns-then-text-eq0 c = last_none _ c.if-text-eq0.true
+pub returns-in-Some : goal.returns-in-Some
+returns-in-Some c = last_some _ _ c.in-Some.ensures.value
 
-pub returns : goal.returns
-returns c = last_line _ c.if-text-eq0.false
+pub returns-in-None : goal.returns-in-None
+returns-in-None c = last_none _ c.in-None.ensures.value

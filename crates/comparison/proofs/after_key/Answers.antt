@@ -1,16 +1,15 @@
 -- `comparison::after_key` meets its contract.
-use mathlib.Core.List.{[]}
 use Rattle.keys.specs.Key.{nth_of}
-use Rattle.keys.specs.Rows.{scene_rows}
+use Rattle.content.specs.Scene.{bare_rows}
 use Rattle.comparison.proofs.StepLaws.{follows_none, follows_some}
 use Rattle.comparison.proofs.after_key.Goals as goal
 
-pub returns-then-at-eq0 : goal.returns-then-at-eq0
-returns-then-at-eq0 c =
+pub returns-in-Some : goal.returns-in-Some
+returns-in-Some c =
     let a = c.args in
-    follows_none (scene_rows a.left.now a.left_records.now []) (scene_rows a.right.now a.right_records.now []) (nth_of a.name.now a.nth) _ c.at_key-at.ensures c.if-at-eq0.true _ c.next_name.ensures
+    follows_some (bare_rows a.left) (bare_rows a.right) (nth_of a.name.now a.nth) _ c.in-Some.ensures
 
-pub returns : goal.returns
-returns c =
+pub returns-in-None : goal.returns-in-None
+returns-in-None c =
     let a = c.args in
-    follows_some (scene_rows a.left.now a.left_records.now []) (scene_rows a.right.now a.right_records.now []) (nth_of a.name.now a.nth) _ c.at_key-at.ensures c.if-at-eq0.false
+    follows_none (bare_rows a.left) (bare_rows a.right) (nth_of a.name.now a.nth) c.in-None.ensures _ c.next_name.ensures

@@ -1,15 +1,21 @@
 -- `comparison::next_key` meets its contract.
-use mathlib.Core.List.{[]}
-use Rattle.keys.specs.Rows.{scene_rows}
+use mathlib.Core.Path.{ap, ◌∙◌}
+use Prim.Native.Nat.{ℕ}
+use Rattle.content.specs.Scene.{bare_rows}
+use Rattle.content.specs.declared.Scene.{Scene}
+use Rattle.keys.specs.Key.{Key, key_of}
 use Rattle.comparison.proofs.StepLaws.{follows_held}
 use Rattle.comparison.proofs.next_key.Goals as goal
+use Rattle.comparison.proofs.next_key.Goals.{in-Left, in-Right}
 
-pub returns-in-Left : goal.returns-in-Left
-returns-in-Left c =
-    let a = c.args in
-    follows_held (scene_rows a.left.now a.left_records.now []) (scene_rows a.right.now a.right_records.now []) a.from _ _ _ _ c.in-Left.is c.key_name-name.ensures c.key_nth-nth.ensures c.after_key.ensures
+-- the key of a number of a scene
+abbrev key_at : Scene × ℕ → Key
+key_at z = key_of (bare_rows z.0) z.1
 
-pub returns-in-Right : goal.returns-in-Right
-returns-in-Right c =
+pub returns : goal.returns
+returns c =
     let a = c.args in
-    follows_held (scene_rows a.left.now a.left_records.now []) (scene_rows a.right.now a.right_records.now []) a.from _ _ _ _ c.in-Right.is c.key_name-name-in-Right.ensures c.key_nth-nth-in-Right.ensures c.after_key-in-Right.ensures
+    elim c.match-from.branch [
+      | in-Left w ↦ follows_held (bare_rows a.left) (bare_rows a.right) a.from _ _ _ _ w.in-Left.is (c.key_name-name.ensures ∙ ap (λ z. (key_at z).name) w.n-is) (c.key_nth-nth.ensures ∙ ap (λ z. (key_at z).nth) w.n-is) c.after_key.ensures
+      | in-Right w ↦ follows_held (bare_rows a.left) (bare_rows a.right) a.from _ _ _ _ w.in-Right.is (c.key_name-name.ensures ∙ ap (λ z. (key_at z).name) w.n-is) (c.key_nth-nth.ensures ∙ ap (λ z. (key_at z).nth) w.n-is) c.after_key.ensures
+    ]

@@ -8,4 +8,4 @@ use Rattle.content.proofs.same_link.Goals as goal
 pub returns : goal.returns
 returns c =
     let a = c.args in
-    links_lead (key_of (scene_rows a.a.now a.a_records.now [])) (key_of (scene_rows a.b.now a.b_records.now [])) _ _ _ _ _ c.number-i.ensures c.number-j.ensures c.same_key.ensures
+    links_lead (key_of (scene_rows a.a.text.now a.a.records.now [])) (key_of (scene_rows a.b.text.now a.b.records.now [])) _ _ _ _ _ c.number-i.ensures c.number-j.ensures c.same_key.ensures

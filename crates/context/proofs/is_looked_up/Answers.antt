@@ -11,5 +11,5 @@ pub returns-in-Target : goal.returns-in-Target
 unfolding is_looked_up
 returns-in-Target c = search rules
 
-pub returns-in_default-phase : goal.returns-in_default-phase
-returns-in_default-phase c = not_looked_up _ c.in_default.not-Idle c.in_default-phase.not-Target _
+pub returns-in_default : goal.returns-in_default
+returns-in_default c = not_looked_up _ c.in_default.not-Idle c.in_default.not-Target _

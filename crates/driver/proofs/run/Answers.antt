@@ -14,6 +14,7 @@ use Rattle.scene.specs.HouseRules.{zero_real}
 use Rattle.scene.specs.declared.Mode.{Mode}
 use Rattle.scene.specs.declared.Settings.{Settings}
 use Rattle.statement.specs.declared.State.{State}
+use Rattle.statement.specs.Step.{as_step}
 use Rattle.statement.specs.declared.Step.{Step}
 use Rattle.driver.proofs.run.Goals as goal
 use Rattle.driver.proofs.run.Goals.{After-next_step}
@@ -94,8 +95,8 @@ module _ (p : After-next_step) where
   kept-index : length index ≡ length lent-index
   kept-index = same_index ∙ p.clear_all.auto.index
 
-  steps-to : (e : Step) → p.next_step.result ≡ e → Ready text records reals index settings state e
-  steps-to e q = ready _ _ _ _ _ _ inv _ _ p.next_step.ensures q
+  steps-to : (e : Step) → p.next_step.result ≡ e → Ready text records reals index settings state (as_step e)
+  steps-to e q = ready _ _ _ _ _ _ inv _ _ p.next_step.ensures (ap as_step q)
 
   -- a step from the state behind the plain statements gets on from where the turn began
   on_from : (n : ℕ) → length text + 1 - n < length text + 1 - state.at → length text + 1 - n < length text + 1 - p.loop-t.s.at
@@ -111,13 +112,13 @@ loop-t-preserved-in-Going c =
     let at-t = c.in-Going in
     ((steps-to (goal.at.loop-t-preserved-in-Going c).After-next_step _ at-t.is).0, same-records (goal.at.loop-t-preserved-in-Going c).After-next_step, same_reals (goal.at.loop-t-preserved-in-Going c).After-next_step, same_index (goal.at.loop-t-preserved-in-Going c).After-next_step)
 
-pub offset_bounds-reals-at : goal.offset_bounds-reals-at
-offset_bounds-reals-at c =
+pub offset_bounds-reals-s : goal.offset_bounds-reals-s
+offset_bounds-reals-s c =
     let at-t2 = c.in-Real in
-    omega (arith, (steps-to (goal.at.offset_bounds-reals-at c).After-next_step _ at-t2.is).0, kept-reals (goal.at.offset_bounds-reals-at c).After-next_step, c.well_formed.1.1.1.0.1)
+    omega (arith, (steps-to (goal.at.offset_bounds-reals-s c).After-next_step _ at-t2.is).0, kept-reals (goal.at.offset_bounds-reals-s c).After-next_step, c.well_formed.1.1.1.0.1)
 
-pub bounds-reals-at : goal.bounds-reals-at
-bounds-reals-at c = (steps-to (goal.at.bounds-reals-at c).After-next_step _ c.in-Real.is).0
+pub bounds-reals-s : goal.bounds-reals-s
+bounds-reals-s c = (steps-to (goal.at.bounds-reals-s c).After-next_step _ c.in-Real.is).0
 
 pub loop-t-smaller-in-Real : goal.loop-t-smaller-in-Real
 loop-t-smaller-in-Real c =
@@ -129,13 +130,13 @@ loop-t-preserved-in-Real c =
     let at-t2 = c.in-Real in
     (((steps-to (goal.at.loop-t-preserved-in-Real c).After-next_step _ at-t2.is).1 _ refl).0, same-records (goal.at.loop-t-preserved-in-Real c).After-next_step, simp length-set (same_reals (goal.at.loop-t-preserved-in-Real c).After-next_step), same_index (goal.at.loop-t-preserved-in-Real c).After-next_step)
 
-pub offset_bounds-reals-at-in-Last : goal.offset_bounds-reals-at-in-Last
-offset_bounds-reals-at-in-Last c =
+pub offset_bounds-reals-s-in-Last : goal.offset_bounds-reals-s-in-Last
+offset_bounds-reals-s-in-Last c =
     let at-t3 = c.in-Last in
-    omega (arith, (steps-to (goal.at.offset_bounds-reals-at-in-Last c).After-next_step _ at-t3.is).0, kept-reals (goal.at.offset_bounds-reals-at-in-Last c).After-next_step, c.well_formed.1.1.1.0.1)
+    omega (arith, (steps-to (goal.at.offset_bounds-reals-s-in-Last c).After-next_step _ at-t3.is).0, kept-reals (goal.at.offset_bounds-reals-s-in-Last c).After-next_step, c.well_formed.1.1.1.0.1)
 
-pub bounds-reals-at-in-Last : goal.bounds-reals-at-in-Last
-bounds-reals-at-in-Last c = (steps-to (goal.at.bounds-reals-at-in-Last c).After-next_step _ c.in-Last.is).0
+pub bounds-reals-s-in-Last : goal.bounds-reals-s-in-Last
+bounds-reals-s-in-Last c = (steps-to (goal.at.bounds-reals-s-in-Last c).After-next_step _ c.in-Last.is).0
 
 pub loop-t-smaller-in-Last : goal.loop-t-smaller-in-Last
 loop-t-smaller-in-Last c =

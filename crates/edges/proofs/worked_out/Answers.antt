@@ -2,7 +2,8 @@
 use mathlib.Core.Path.{ap, ◌∙◌}
 use lib.Ieee.{Float, add, binary64, div, lt, mul, sub}
 use Rattle.edges.proofs.CodeLaws.{worked}
-use Rattle.edges.specs.Code.{axis_of, when}
+use Rattle.std.specs.Bool.{then_some}
+use Rattle.edges.specs.Code.{axis_of, crossed_of}
 use Rattle.edges.specs.Crossing.{worked_out}
 use Rattle.edges.specs.Normal.{first}
 use Rattle.steps.specs.Step.{step}
@@ -31,5 +32,6 @@ returns c =
     let across = at-step4.ensures ∙ (λ i. step (mul binary64 (up i) (wide i))) in
     let part = at-step5.ensures ∙ (λ i. step (div binary64 (across i) (high i))) in
     let stands = at-step6.ensures ∙ (λ i. step (add binary64 (at-first-of.ensures i) (part i))) in
-    ap (λ (g : Float). when at-is-finite.result (lt g at-step6.result)) at-first-of3.ensures
+    ap crossed_of c.then_some.ensures
+    ∙ ap (λ (g : Float). crossed_of (then_some at-is-finite.result (lt g at-step6.result))) at-first-of3.ensures
     ∙ worked (first (axis_of a.a) a.p) at-step6.result _ at-is-finite.ensures stands

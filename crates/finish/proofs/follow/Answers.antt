@@ -1,5 +1,6 @@
 -- `finish::follow` meets its contract.
 use native.Mathlib.Omega.{arith}
+use Rattle.finish.specs.Answer.{link_of}
 use Rattle.finish.proofs.WalkLaws.{follows_0, follows_late, follows_out, follows_type}
 use Rattle.finish.proofs.follow.Goals as goal
 
@@ -15,4 +16,4 @@ returns-then-allowance-links c = follows_out _ _ _ _ (omega arith) (omega arith)
 pub returns : goal.returns
 returns c =
     let a = c.args in
-    follows_type a.records.now a.at a.links a.allowance (omega arith) (omega arith) (omega arith) c.reached.result cc
+    follows_type a.records.now a.at a.links a.allowance (omega arith) (omega arith) (omega arith) (link_of c.link_to.result) cc

@@ -1,10 +1,21 @@
 -- `finish::name_refusal` meets its contract.
-use mathlib.Core.Path.{◌∙◌, sym}
-use Rattle.finish.proofs.QuestionLaws.{refusal_number, refusal_test}
+use Rattle.std.proofs.Common.{◌≡◌, Ok, Err, ap, ◌∙◌, rules}
+use Rattle.finish.proofs.QuestionLaws.{refusal_first, refusal_test}
+use Rattle.table.proofs.RefusalLaws.{refused_number, taken_number}
+use Rattle.table.specs.Question.{refusal_number}
 use Rattle.finish.proofs.name_refusal.Goals as goal
 
-pub returns-then-reason-ne0 : goal.returns-then-reason-ne0
-returns-then-reason-ne0 c = c.number_refusal-reason.ensures ∙ refusal_number c.args.text.now c.args.records.now c.args.count c.args.number (λ e. c.if-reason-ne0.true (c.number_refusal-reason.ensures ∙ e))
+pub returns-in_err-number_refusal : goal.returns-in_err-number_refusal
+returns-in_err-number_refusal c =
+    let a = c.args in
+    let reason = c.in_err-number_refusal.field-0.0 in
+    let refused : c.number_refusal.result ≡ Err reason = search rules in
+    let handed : c.from_residual.result ≡ Err reason = search rules in
+    let known = refused_number c.number_refusal.result reason _ refused c.number_refusal.ensures in
+    ap refusal_number handed ∙ known.0 ∙ refusal_first a.text.now a.records.now a.count a.number known.1
 
 pub returns : goal.returns
-returns c = c.name_test.ensures ∙ refusal_test c.args.text.now c.args.records.now c.args.count c.args.number _ _ (sym c.number_refusal-reason.ensures ∙ c.if-reason-ne0.false) (c.wide-place.ensures ∙ c.field.ensures) (c.wide-len.ensures ∙ c.field-2.ensures)
+returns c =
+    let a = c.args in
+    let taken : c.number_refusal.result ≡ Ok c.in_ok-number_refusal.field-0 = search rules in
+    c.name_test.ensures ∙ refusal_test a.text.now a.records.now a.count a.number _ _ (taken_number c.number_refusal.result _ _ taken c.number_refusal.ensures) c.field-place.ensures c.field-len.ensures

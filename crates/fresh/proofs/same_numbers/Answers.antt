@@ -1,26 +1,26 @@
 -- `fresh::same_numbers` meets its contract.
-use mathlib.Core.Path.{◌≡◌, sym, ◌∙◌}
-use Prim.Native.Nat.{◌-◌}
-use native.Mathlib.Omega.{arith}
-use lib.ListN.{length, get_or}
-use Rattle.lexer.proofs.SameLaws.{same_length, same_end, same_stop, same_step}
-use Rattle.scene.specs.Record.{filled}
-use Rattle.scene.proofs.ImageLaws.{filled_over, filled_length, filled_at}
+use mathlib.Core.Path.{◌≡◌, sym}
+use Prim.Native.Nat.{ℕ, ◌<◌}
+use Rattle.std.proofs.Common.{rules, tests}
+use lib.Dec.{eqb}
+use lib.ListN.{length}
+use Rattle.std.proofs.lemmas.Iterator.{YieldsList-from_slice}
+use Rattle.std.proofs.lemmas.Iterator.Search.{all_from_yields_List}
+use Rattle.std.specs.List.{IsSplitAt}
+use Rattle.lexer.proofs.SameLaws.{same_length}
+use Rattle.scene.proofs.ImageLaws.{filled_over}
+use Rattle.fresh.proofs.FreshLaws.{by_number, front_differs, rest_decides}
 use Rattle.fresh.proofs.same_numbers.Goals as goal
-use Rattle.fresh.proofs.same_numbers.Goals.{After-number_at}
+use Rattle.fresh.proofs.same_numbers.Goals.{In-Some}
 
-pub returns-then-table-fresh : goal.returns-then-table-fresh
-returns-then-table-fresh c = sym (same_length _ _ (filled_over 0 _ c.args.fresh.now c.if-table-fresh.true))
+pub returns-in_default : goal.returns-in_default
+returns-in_default c = let short : length c.args.table.now < length c.args.fresh.now = search rules in sym (same_length _ _ (filled_over 0 _ c.args.fresh.now short))
 
--- the entry that the code takes of the fresh table is that of the filled one
-entry_at : (c : After-number_at) → get_or (filled 0 (length c.args.table.now) c.args.fresh.now) c.loop-i.i 0 ≡ c.number_at.result
-entry_at c = filled_at 0 (length c.args.table.now) c.args.fresh.now c.if-table-fresh.false c.loop-i.i 0 (omega arith) ∙ sym c.number_at.ensures
+split : (c : In-Some) → IsSplitAt c.args.table.now (length c.args.fresh.now) c.in-Some.front.now c.in-Some.rest.now
+split c = search rules
 
-pub returns-then-table-i : goal.returns-then-table-i
-returns-then-table-i c = sym (same_stop c.args.table.now _ (filled_length 0 _ c.args.fresh.now c.if-table-fresh.false) c.loop-i.i (omega arith) (λ e. c.if-table-i.true (e ∙ entry_at (goal.at.returns-then-table-i c).After-number_at))) ∙ c.loop-i.invariant
+pub returns-then-eq : goal.returns-then-eq
+returns-then-eq c = rest_decides by_number 0 c.args.table.now c.in-Some.front.now c.in-Some.rest.now c.args.fresh.now (split (goal.at.returns-then-eq c).In-Some) _ c.eq.ensures c.if-eq.true _ (all_from_yields_List (λ (n : ℕ). eqb n 0) _ _ c.all.result c.all.ensures.ran (YieldsList-from_slice c.in-Some.rest.now cc) (λ x b q k. search (rules, tests)))
 
-pub loop-i-preserved : goal.loop-i-preserved
-loop-i-preserved c = same_step c.args.table.now _ (filled_length 0 _ c.args.fresh.now c.if-table-fresh.false) c.loop-i.i (omega arith) (c.if-table-i.false ∙ sym (entry_at (goal.at.loop-i-preserved c).After-number_at)) ∙ c.loop-i.invariant
-
-pub returns : goal.returns
-returns c = sym (same_end c.args.table.now _ (filled_length 0 _ c.args.fresh.now c.if-table-fresh.false) c.loop-i.i c.loop-i-test.false) ∙ c.loop-i.invariant
+pub returns-else-eq : goal.returns-else-eq
+returns-else-eq c = front_differs by_number 0 c.args.table.now c.in-Some.front.now c.in-Some.rest.now c.args.fresh.now (split (goal.at.returns-else-eq c).In-Some) _ c.eq.ensures c.if-eq.false

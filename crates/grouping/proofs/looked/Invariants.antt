@@ -1,10 +1,6 @@
-use Prim.Native.Nat.{◌-◌}
 use Rattle.grouping.specs.Code.{Looking}
 use Rattle.ties.specs.Ties.{held_rows}
 use Rattle.grouping.proofs.looked.Given as goal
 
 abbrev pub invariant-loop-known : goal.invariant-loop-known
 invariant-loop-known l = Looking (held_rows l.records l.classes) l.seen l.k l.known
-
-abbrev pub decreases-loop-known : goal.decreases-loop-known
-decreases-loop-known l = l.k - l.known

@@ -1,6 +1,7 @@
 -- `hits::ring_hit_above` meets its contract.
 use mathlib.Core.Bool.{◌&&◌}
-use mathlib.Core.Path.{◌≡◌, sym, ap, ◌∙◌}
+use mathlib.Core.Path.{◌≡◌}
+use Rattle.std.proofs.lemmas.Result.{err_from_is_err_and}
 use lib.Ieee.{of_bits}
 use lib.Ieee.Scale.{finite}
 use Rattle.steps.specs.Vectors.{finite_vector}
@@ -9,7 +10,6 @@ use Rattle.hits.proofs.ShapeLaws.{plane_within}
 use Rattle.hits.specs.FromZero.{within}
 use Rattle.hits.specs.Ring.{on_ring, ring_hit}
 use Rattle.hits.specs.Shape.{hit_above}
-use Rattle.hits.specs.declared.Hit.{Hit}
 use Rattle.hits.proofs.ring_hit_above.Goals as goal
 use Rattle.hits.proofs.ring_hit_above.Goals.{After-is_finite-3, After-plane_hit}
 
@@ -38,17 +38,13 @@ unfolding hit_above of_bits
 returns-then-not-in_range-least c =
     simp (inputs (goal.at.returns-then-not-in_range-least c).After-is_finite-3, c.if-not-finite-is_finite.false-raw, c.if-not-in_range-least.true-raw)
 
-pub returns-in-At : goal.returns-in-At
-returns-in-At c =
-    let a = c.args in
-    c.on_ring.ensures ∙ sym (by-plane (goal.at.returns-in-At c).After-plane_hit ∙ ap (λ (h : Hit). within (on_ring a.ray a.ring) (outcome_of h)) c.in-At.is)
+pub returns-in_err-t : goal.returns-in_err-t
+returns-in_err-t c =
+    let p = err_from_is_err_and c.from_residual.result c.from_residual.ensures.1 in
+    rw (by-plane (goal.at.returns-in_err-t c).After-plane_hit, c.in_err-t.was, p.1, p.2)
 
-pub returns-in-Miss : goal.returns-in-Miss
-returns-in-Miss c =
-    let a = c.args in
-    sym (by-plane (goal.at.returns-in-Miss c).After-plane_hit ∙ ap (λ (h : Hit). within (on_ring a.ray a.ring) (outcome_of h)) c.in-Miss.is)
+pub returns-in-Some : goal.returns-in-Some
+returns-in-Some c = rw (by-plane (goal.at.returns-in-Some c).After-plane_hit, c.in_ok-t.was, c.in-Some.is) c.on_ring.ensures
 
-pub returns-in-Refused : goal.returns-in-Refused
-returns-in-Refused c =
-    let a = c.args in
-    sym (by-plane (goal.at.returns-in-Refused c).After-plane_hit ∙ ap (λ (h : Hit). within (on_ring a.ray a.ring) (outcome_of h)) c.in-Refused.is)
+pub returns-in-None : goal.returns-in-None
+returns-in-None c = rw (by-plane (goal.at.returns-in-None c).After-plane_hit, c.in_ok-t.was, c.in-None.is)

@@ -2,8 +2,8 @@
 use Rattle.host_lines.proofs.HostLaws.{held_left, held_right}
 use Rattle.host_lines.proofs.held_in.Goals as goal
 
-pub returns-then-line-eq0 : goal.returns-then-line-eq0
-returns-then-line-eq0 c = held_left _ c.if-line-eq0.true
+pub returns-then-line-eq-LEFT : goal.returns-then-line-eq-LEFT
+returns-then-line-eq-LEFT c = held_left _ c.if-line-eq-LEFT.true
 
 pub returns : goal.returns
-returns c = held_right _ c.if-line-eq0.false
+returns c = held_right _ c.if-line-eq-LEFT.false

@@ -3,12 +3,12 @@ use mathlib.Core.Path.{refl}
 use Rattle.host_lines.proofs.HostLaws.{line_told}
 use Rattle.host_lines.proofs.tell_line.Goals as goal
 
-pub returns-in-End : goal.returns-in-End
-returns-in-End c =
+pub returns-in-None : goal.returns-in-None
+returns-in-None c =
     let a = c.args in
-    line_told a.left.now a.left_records.now a.left_reals.now a.right.now a.right_records.now a.right_reals.now a.line.now _ _ _ _ c.in-End.is c.next_line.ensures c.held_in-held.ensures refl
+    line_told a.left.text.now a.left.records.now a.left.reals.now a.right.text.now a.right.records.now a.right.reals.now a.line.now _ _ _ c.in-None.ensures c.held_in-held.ensures refl
 
-pub returns-in-Line : goal.returns-in-Line
-returns-in-Line c =
+pub returns-in-Some : goal.returns-in-Some
+returns-in-Some c =
     let a = c.args in
-    line_told a.left.now a.left_records.now a.left_reals.now a.right.now a.right_records.now a.right_reals.now a.line.now _ _ _ _ c.in-Line.is c.next_line.ensures c.held_in-held.ensures c.values_of.ensures
+    line_told a.left.text.now a.left.records.now a.left.reals.now a.right.text.now a.right.records.now a.right.reals.now a.line.now _ _ _ c.in-Some.ensures c.held_in-held.ensures c.values_of.ensures

@@ -1,14 +1,14 @@
 -- `host_lines::tell_ordered` meets its contract.
-use Rattle.ordered.specs.Lines.{scene}
+use Rattle.ordered.specs.Lent.{lent}
 use Rattle.host_lines.proofs.OrderedLaws.{end_told, line_told}
 use Rattle.host_lines.proofs.tell_ordered.Goals as goal
 
-pub returns-in-End : goal.returns-in-End
-returns-in-End c =
+pub returns-in-None : goal.returns-in-None
+returns-in-None c =
     let a = c.args in
-    end_told (scene a.left.now a.left_records.now a.left_reals.now a.left_order.now) (scene a.right.now a.right_records.now a.right_reals.now a.right_order.now) a.line.now _ c.in-End.is c.next_line.ensures
+    end_told (lent a.left) (lent a.right) a.line.now c.in-None.ensures
 
-pub returns-in-Line : goal.returns-in-Line
-returns-in-Line c =
+pub returns-in-Some : goal.returns-in-Some
+returns-in-Some c =
     let a = c.args in
-    line_told (scene a.left.now a.left_records.now a.left_reals.now a.left_order.now) (scene a.right.now a.right_records.now a.right_reals.now a.right_order.now) a.line.now _ c.in-Line.at _ _ _ _ c.in-Line.is c.next_line.ensures c.values_of-values.ensures
+    line_told (lent a.left) (lent a.right) a.line.now _ _ c.in-Some.ensures c.values_of.ensures

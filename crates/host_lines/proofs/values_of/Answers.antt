@@ -7,9 +7,9 @@ use Rattle.host_lines.proofs.values_of.Goals as goal
 pub returns-in-Left : goal.returns-in-Left
 returns-in-Left c =
     let p = sym c.in-Left.is in
-    λ i. side_of (p i) ∷ number_of (p i) ∷ c.args.nth ∷ c.state_number-number.ensures i ∷ []
+    λ i. side_of (p i) ∷ number_of (p i) ∷ c.args.line.nth ∷ c.number-state.ensures i ∷ []
 
 pub returns-in-Right : goal.returns-in-Right
 returns-in-Right c =
     let p = sym c.in-Right.is in
-    λ i. side_of (p i) ∷ number_of (p i) ∷ c.args.nth ∷ c.state_number-number.ensures i ∷ []
+    λ i. side_of (p i) ∷ number_of (p i) ∷ c.args.line.nth ∷ c.number-state.ensures i ∷ []

@@ -2,8 +2,8 @@
 use Rattle.host_reading.proofs.ReadingLaws.{reading_told}
 use Rattle.host_reading.proofs.tell_reading.Goals as goal
 
-pub returns-in-Accepted : goal.returns-in-Accepted
-returns-in-Accepted c = reading_told _ _ c.mode_of.ensures _ _ _ _ _ _ _ _ (rw c.in-Accepted.is at c.read.ensures)
+pub returns-in-Ok : goal.returns-in-Ok
+returns-in-Ok c = reading_told _ _ c.mode_of.ensures _ _ _ _ _ _ _ _ (rw c.in-Ok.is at c.read.ensures)
 
-pub returns-in-Refused : goal.returns-in-Refused
-returns-in-Refused c = reading_told _ _ c.mode_of.ensures _ _ _ _ _ _ _ _ (rw c.in-Refused.is at c.read.ensures)
+pub returns-in-Err : goal.returns-in-Err
+returns-in-Err c = rw c.number.ensures (reading_told _ _ c.mode_of.ensures _ _ _ _ _ _ _ _ (rw c.in-Err.is at c.read.ensures))

@@ -1,10 +1,9 @@
 -- `index::probe` meets its contract.
-use mathlib.Core.Path.{sym, ◌∙◌, ap}
-use Prim.Native.Nat.{◌-◌}
+use mathlib.Core.Path.{◌≡◌, subst, refl, sym, ◌∙◌, ap}
 use native.Mathlib.Omega.{arith}
 use Rattle.index.specs.Index.{stops}
 use Rattle.scene.specs.Record.{name_in}
-use Rattle.index.proofs.SearchLaws.{at_first, at_next, at_hit, at_last, at_lt}
+use Rattle.index.proofs.SearchLaws.{At, at_first, at_next, at_hit, at_last, at_lt}
 use Rattle.index.proofs.probe.Goals as goal
 
 pub loop-passed-init : goal.loop-passed-init
@@ -25,7 +24,7 @@ bounds-index-entry c =
 pub returns-then-stops : goal.returns-then-stops
 returns-then-stops c =
     let a = c.args in
-    at_hit a.index.now (name_in a.text.now a.records.now) a.word.now _ _ _ c.loop-passed-test.true c.loop-passed.invariant c.wide-number.ensures (sym c.stops.ensures ∙ c.if-stops.true)
+    at_hit a.index.now (name_in a.text.now a.records.now) a.word.now _ _ _ c.loop-passed-test.true c.loop-passed.invariant refl (sym c.stops.ensures ∙ c.if-stops.true)
 
 pub overflow_add-entry : goal.overflow_add-entry
 overflow_add-entry c =
@@ -35,7 +34,7 @@ overflow_add-entry c =
 pub loop-passed-preserved : goal.loop-passed-preserved
 loop-passed-preserved c =
     let a = c.args in
-    at_next a.index.now (name_in a.text.now a.records.now) a.word.now _ _ c.loop-passed-test.true c.loop-passed.invariant (ap (stops (name_in a.text.now a.records.now) a.word.now) (sym c.wide-number.ensures) ∙ sym c.stops.ensures ∙ c.if-stops.false)
+    at_next a.index.now (name_in a.text.now a.records.now) a.word.now _ _ c.loop-passed-test.true c.loop-passed.invariant (ap (stops (name_in a.text.now a.records.now) a.word.now) (sym refl) ∙ sym c.stops.ensures ∙ c.if-stops.false)
 
 pub offset_bounds-index-entry-2 : goal.offset_bounds-index-entry-2
 offset_bounds-index-entry-2 c =
@@ -47,10 +46,9 @@ bounds-index-entry-2 c =
     let a = c.args in
     omega (arith, at_lt a.index.now (name_in a.text.now a.records.now) a.word.now _ _ c.loop-passed.invariant)
 
-pub overflow_add-result-2 : goal.overflow_add-result-2
-overflow_add-result-2 c = omega (arith, c.loop-passed.invariant.few)
-
 pub returns : goal.returns
 returns c =
     let a = c.args in
-    at_last a.index.now (name_in a.text.now a.records.now) a.word.now _ _ _ c.loop-passed-test.false c.loop-passed.invariant c.wide.ensures
+    let name = name_in a.text.now a.records.now in
+    let all : c.loop-passed.passed ≡ 2047 = omega arith in
+    at_last a.index.now name a.word.now c.loop-passed.entry 2047 _ (omega arith) (subst (At a.index.now name a.word.now c.loop-passed.entry) all c.loop-passed.invariant) refl

@@ -1,10 +1,6 @@
-use Prim.Native.Nat.{◌-◌}
 use Rattle.scene.specs.Record.{name_in}
 use Rattle.index.proofs.SearchLaws.{At}
 use Rattle.index.proofs.probe.Given as goal
 
 abbrev pub invariant-loop-passed : goal.invariant-loop-passed
 invariant-loop-passed l = At l.index (name_in l.text l.records) l.word l.entry l.passed
-
-abbrev pub decreases-loop-passed : goal.decreases-loop-passed
-decreases-loop-passed l = 2047 - l.passed

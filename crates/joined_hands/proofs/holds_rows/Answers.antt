@@ -18,10 +18,10 @@ pub slice_bounds-match_all-end : goal.slice_bounds-match_all-end
 slice_bounds-match_all-end c = sym (length-take-le _ _ c.requires.lefts)
 
 -- the matches that were lent come back as many as they were
-lefts-many : (c : After-match_all) → length c.match_all.new.matches ≡ length c.args.left_records.now / 11
+lefts-many : (c : After-match_all) → length c.match_all.new.matches ≡ length c.args.left.records.now / 11
 lefts-many c = c.match_all.auto.matches ∙ length-take-le _ _ c.requires.lefts
 
-rights-many : (c : After-match_all-2) → length c.match_all-2.new.matches ≡ length c.args.right_records.now / 11
+rights-many : (c : After-match_all-2) → length c.match_all-2.new.matches ≡ length c.args.right.records.now / 11
 rights-many c = c.match_all-2.auto.matches ∙ length-take-le _ _ c.requires.rights
 
 pub slice_bounds-right_matches-end : goal.slice_bounds-right_matches-end
@@ -46,6 +46,6 @@ pub returns : goal.returns
 unfolding holds_rows
 returns c =
     let a = c.args in
-    let rights = matches_front (match_of a.right.now a.right_records.now a.right_reals.now a.typed.now a.typed_records.now a.typed_reals.now) _ _ _ c.requires.rights c.match_all-2.ensures _ in
-    let lefts = matches_front (match_of a.left.now a.left_records.now a.left_reals.now a.typed.now a.typed_records.now a.typed_reals.now) _ _ _ c.requires.lefts c.match_all.ensures _ in
-    c.all_held.ensures ∙ (λ i. all_held (rights i) (lefts i) a.order.now a.typed.now a.typed_records.now)
+    let rights = matches_front (match_of a.right.text.now a.right.records.now a.right.reals.now a.typed.text.now a.typed.records.now a.typed.reals.now) _ _ _ c.requires.rights c.match_all-2.ensures _ in
+    let lefts = matches_front (match_of a.left.text.now a.left.records.now a.left.reals.now a.typed.text.now a.typed.records.now a.typed.reals.now) _ _ _ c.requires.lefts c.match_all.ensures _ in
+    c.all_held.ensures ∙ (λ i. all_held (rights i) (lefts i) a.order.now a.typed.text.now a.typed.records.now)

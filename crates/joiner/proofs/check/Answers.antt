@@ -8,15 +8,15 @@ use Rattle.joiner.proofs.check.Goals as goal
 
 pub slice_bounds-check_order-end : goal.slice_bounds-check_order-end
 slice_bounds-check_order-end c =
-    let l : c.least-end.result ≤ 2048 = omega (arith, c.least-end.ensures) in
+    let l : c.min-end.result ≤ 2048 = omega (arith, c.min-end.ensures) in
     sym (length-take-le _ _ (omega (arith, l, c.plan-planned.ensures.size)))
 
-pub returns-in-Refused : goal.returns-in-Refused
-returns-in-Refused c =
+pub returns-in-Err : goal.returns-in-Err
+returns-in-Err c =
     let a = c.args in
-    checks_refused a.mode a.base.now a.left.now a.right.now a.records.now a.reals.now a.out.now c.plan-planned.result.order a.typed.now _ _ _ (rw c.in-Refused.is at c.plan-planned.ensures) c.refuse.ensures
+    checks_refused a.mode a.base.now a.left.now a.right.now a.records.now a.reals.now a.out.now c.plan-planned.result.order a.typed.now _ _ _ (rw c.in-Err.is at c.plan-planned.ensures) c.refuse.ensures
 
-pub returns-in-Ordered : goal.returns-in-Ordered
-returns-in-Ordered c =
+pub returns-in-Ok : goal.returns-in-Ok
+returns-in-Ok c =
     let a = c.args in
-    checks_order a.mode a.base.now a.left.now a.right.now a.records.now a.reals.now a.out.now c.plan-planned.result.order _ (rw c.in-Ordered.is at c.plan-planned.ensures) _ c.least-end.ensures _ refl a.typed.now c.check_order.ensures
+    checks_order a.mode a.base.now a.left.now a.right.now a.records.now a.reals.now a.out.now c.plan-planned.result.order _ (rw c.in-Ok.is at c.plan-planned.ensures) _ c.min-end.ensures _ refl a.typed.now c.check_order.ensures

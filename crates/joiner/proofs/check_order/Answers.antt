@@ -5,14 +5,14 @@ use Rattle.joiner.proofs.check_order.Goals as goal
 pub returns-then-holds : goal.returns-then-holds
 returns-then-holds c =
     let a = c.args in
-    typed_settled a.mode a.left.now a.right.now a.typed.now a.order.now a.records.now a.reals.now a.out.now _ _ (rw c.in-Accepted.is at c.read_with_own_tables.ensures) _ c.holds.ensures c.if-holds.true c.settle.ensures
+    typed_settled a.mode a.left.now a.right.now a.typed.now a.order.now a.records.now a.reals.now a.out.now _ _ (rw c.in-Ok.is at c.read_with_own_tables.ensures) _ c.holds.ensures c.if-holds.true c.settle.ensures
 
-pub returns-in-Refused : goal.returns-in-Refused
-returns-in-Refused c =
+pub returns-in-Err : goal.returns-in-Err
+returns-in-Err c =
     let a = c.args in
-    typed_refused a.mode a.left.now a.right.now a.typed.now a.order.now a.records.now a.reals.now a.out.now _ _ (rw c.in-Refused.is at c.read_with_own_tables.ensures) c.refuse.ensures
+    typed_refused a.mode a.left.now a.right.now a.typed.now a.order.now a.records.now a.reals.now a.out.now _ _ (rw c.in-Err.is at c.read_with_own_tables.ensures) c.refuse.ensures
 
 pub returns-else-holds : goal.returns-else-holds
 returns-else-holds c =
     let a = c.args in
-    typed_failed a.mode a.left.now a.right.now a.typed.now a.order.now a.records.now a.reals.now a.out.now _ _ (rw c.in-Accepted.is at c.read_with_own_tables.ensures) _ c.holds.ensures c.if-holds.false c.refuse-in-Accepted.ensures
+    typed_failed a.mode a.left.now a.right.now a.typed.now a.order.now a.records.now a.reals.now a.out.now _ _ (rw c.in-Ok.is at c.read_with_own_tables.ensures) _ c.holds.ensures c.if-holds.false (rw c.refusal_of.ensures at c.refuse-in-Ok.ensures)

@@ -9,15 +9,15 @@ use Rattle.joiner.proofs.propose_order.Goals as goal
 pub returns-then-end : goal.returns-then-end
 returns-then-end c =
     let a = c.args in
-    order_long a.mode a.left.now a.right.now a.order.now a.records.now a.reals.now a.out.now refl c.put_hands-end.ensures c.if-end.true c.refuse.ensures
+    order_long a.mode a.left.now a.right.now a.order.now a.records.now a.reals.now a.out.now refl c.put_hands-end.ensures c.if-end.true (rw c.refusal_of.ensures at c.refuse.ensures)
 
 pub slice_bounds-read_proposed-end : goal.slice_bounds-read_proposed-end
 slice_bounds-read_proposed-end c =
     let p = c.put_hands-end in
-    let l : c.least-at.result ≤ 65536 = omega (arith, c.least-at.ensures) in
+    let l : c.min-at.result ≤ 65536 = omega (arith, c.min-at.ensures) in
     sym (length-take-le _ _ (omega (arith, l, p.ensures.size)))
 
 pub returns : goal.returns
 returns c =
     let a = c.args in
-    order_read a.mode a.left.now a.right.now a.order.now a.records.now a.reals.now a.out.now refl c.put_hands-end.ensures c.if-end.false _ c.least-at.ensures _ refl c.read_proposed.ensures
+    order_read a.mode a.left.now a.right.now a.order.now a.records.now a.reals.now a.out.now refl c.put_hands-end.ensures c.if-end.false _ c.min-at.ensures _ refl c.read_proposed.ensures

@@ -1,6 +1,5 @@
 -- `keys::least_above_lem` meets its contract.
 use mathlib.Core.Path.{ap, ◌∙◌}
-use Prim.Native.Nat.{◌-◌}
 use native.Mathlib.Omega.{arith}
 use borrow.Author.Rules.{rules}
 use Rattle.keys.proofs.ScanLaws.{least_start, least_step}

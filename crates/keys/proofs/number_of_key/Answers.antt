@@ -1,5 +1,5 @@
 -- `keys::number_of_key` meets its contract.
-use Prim.Native.Nat.{◌+◌, ◌-◌}
+use Prim.Native.Nat.{◌+◌}
 use native.Mathlib.Omega.{arith}
 use borrow.Author.Rules.{rules}
 use Rattle.keys.proofs.ScanLaws.{hit_most, times_none, times_more, number_hit, number_none}

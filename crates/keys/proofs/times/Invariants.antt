@@ -1,12 +1,9 @@
 use mathlib.Core.List.{[]}
 use mathlib.Core.Path.{◌≡◌}
-use Prim.Native.Nat.{◌-◌, ◌≤◌}
+use Prim.Native.Nat.{◌≤◌}
 use Rattle.keys.specs.Key.{times}
 use Rattle.keys.specs.Rows.{rows_in}
 use Rattle.keys.proofs.times.Given as goal
 
 abbrev pub invariant-loop-k : goal.invariant-loop-k
 invariant-loop-k l = (l.k ≤ l.n) × (l.seen ≤ l.k) × (l.seen ≡ times l.name (rows_in l.text l.records [] l.k))
-
-abbrev pub decreases-loop-k : goal.decreases-loop-k
-decreases-loop-k l = l.n - l.k

@@ -5,4 +5,4 @@ use Rattle.kinds.proofs.reals_allowed.Goals as goal
 
 pub returns : goal.returns
 unfolding reals_allowed
-returns c = c.allowed.ensures ∙ ap (λ (q : Rule). allows q c.args.n) c.reals_rule.ensures
+returns c = c.allows.ensures ∙ ap (λ (q : Rule). allows q c.args.n) c.rules.ensures.reals

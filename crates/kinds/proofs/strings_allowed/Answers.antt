@@ -5,4 +5,4 @@ use Rattle.kinds.proofs.strings_allowed.Goals as goal
 
 pub returns : goal.returns
 unfolding strings_allowed
-returns c = c.allowed.ensures ∙ ap (λ (q : Rule). allows q c.args.n) c.strings_rule.ensures
+returns c = c.allows.ensures ∙ ap (λ (q : Rule). allows q c.args.n) c.rules.ensures.strings

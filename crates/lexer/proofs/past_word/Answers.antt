@@ -1,6 +1,5 @@
 -- `lexer::past_word` meets its contract: the word ends within the text, so the sum fits.
 use mathlib.Core.Path.{ap}
-use Prim.Native.Nat.{◌+◌}
 use native.Mathlib.Omega.{arith}
 use Rattle.lexer.proofs.WordLaws.{end_most}
 use Rattle.lexer.specs.declared.Word.{Word}
@@ -10,6 +9,3 @@ pub overflow_add-result : goal.overflow_add-result
 overflow_add-result c =
     let a = c.args in
     omega (arith, end_most a.text.now a.at, ap (λ (w : Word). w.place) c.next_word-word.ensures, ap (λ (w : Word). w.len) c.next_word-word.ensures)
-
-pub returns : goal.returns
-returns c = ap (λ (w : Word). w.place + w.len) c.next_word-word.ensures

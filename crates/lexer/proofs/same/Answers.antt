@@ -1,16 +1,14 @@
--- `lexer::same` meets its contract: words of one length are the same where the last byte is, and the others are.
-use mathlib.Core.Path.{sym}
-use Rattle.lexer.proofs.SameLaws.{one_differs, same_last, same_length, same_none}
+-- `lexer::same` meets its contract: where the lengths or the last bytes differ the words do, and else std's comparison is asked.
+use Rattle.std.proofs.Common.{sym, ◌∙◌}
+use Rattle.lexer.proofs.SameLaws.{last_differs, same_is, same_length}
 use Rattle.lexer.proofs.same.Goals as goal
+use Rattle.lexer.proofs.same.Goals.{then-a-b, else-a-b}
 
-pub returns-then-a-b : goal.returns-then-a-b
-returns-then-a-b c = sym (same_length _ _ c.if-a-b.true)
+pub returns-then-eq : goal.returns-then-eq
+returns-then-eq c = c.eq-then-eq.ensures ∙ same_is _ _
 
-pub returns-then-a-eq0 : goal.returns-then-a-eq0
-returns-then-a-eq0 c = same_none _ _ c.if-a-b.false c.if-a-eq0.true
-
-pub returns-then-a-last : goal.returns-then-a-last
-returns-then-a-last c = one_differs _ _ _ c.if-a-last.true
-
-pub returns : goal.returns
-returns c = same_last _ _ c.if-a-b.false _ c.if-a-eq0.false c.if-a-last.false c.all_same.ensures
+pub returns-else-eq : goal.returns-else-eq
+returns-else-eq c = elim c.if-a-b.branch [
+  | then-a-b w ↦ c.if-eq.false ∙ last_differs _ _ _ _ _ w.last.ensures.value w.last-then-a-b.ensures.value w.eq.ensures (sym w.value-is ∙ c.if-eq.false)
+  | else-a-b w ↦ c.if-eq.false ∙ sym (same_length _ _ w.if-a-b.false)
+]

@@ -1,15 +1,10 @@
 -- `lexer::skip_words` meets its contract.
-use mathlib.Core.Path.{refl, ◌∙◌}
-use Rattle.lexer.proofs.WordLaws.{skipped_none, skipped_more}
+use Rattle.std.proofs.Common.{◌∙◌}
+use Rattle.lexer.proofs.WordLaws.{skipped_all, skipped_more}
 use Rattle.lexer.proofs.skip_words.Goals as goal
 
-pub loop-left-init : goal.loop-left-init
-loop-left-init c = refl
-
-pub loop-left-preserved : goal.loop-left-preserved
-loop-left-preserved c =
-    let l = c.loop-left in
-    skipped_more c.args.text.now l.place l.left c.loop-left-test.true c.past_word-place.ensures ∙ l.invariant
+pub loop-preserved : goal.loop-preserved
+loop-preserved c = skipped_more c.args.text.now c.loop.place c.args.count c.loop.counter c.loop-test.true c.past_word-place.ensures ∙ c.loop.invariant
 
 pub returns : goal.returns
-returns c = skipped_none c.args.text.now c.loop-left.place c.loop-left.left c.loop-left-test.false ∙ c.loop-left.invariant
+returns c = skipped_all c.args.text.now c.loop.place c.args.count c.loop.counter c.loop-test.false ∙ c.loop.invariant

@@ -15,8 +15,8 @@ counted : (c : After-line_ends-more) → let a = c.args in c.line_ends-more.resu
 counted c =
     let a = c.args in
     let from = c.field-from.ensures in
-    let cut = c.least.ensures ∙ (λ i. min (from i) a.place) in
-    c.line_ends-more.ensures ∙ ap newlines (c.part-passed.ensures ∙ (λ i. part a.text.now (from i) (a.place - cut i)))
+    let cut : c.saturating_sub.result ≡ a.place - min c.field-from.result a.place = omega arith in
+    c.line_ends-more.ensures ∙ ap newlines (c.part-passed.ensures ∙ (λ i. part a.text.now c.field-from.result (cut i)) ∙ (λ i. part a.text.now (from i) (a.place - min (from i) a.place)))
 
 pub overflow_add-result : goal.overflow_add-result
 overflow_add-result c =

@@ -1,6 +1,4 @@
 -- `linker::earlier` meets its contract.
-use mathlib.Core.Path.{◌∙◌}
-use Rattle.laws.specs.Bytes.{part}
 use Rattle.linker.proofs.TableLaws.{earlier_surface, earlier_found}
 use Rattle.linker.proofs.earlier.Goals as goal
 
@@ -12,4 +10,4 @@ returns-then-is_surface c =
 pub returns : goal.returns
 returns c =
     let a = c.args in
-    earlier_found a.text.now a.records.now a.index.now a.count a.d c.is_surface.ensures c.if-is_surface.false (c.part-name.ensures ∙ (λ i. part a.text.now (c.wide.ensures i) (c.wide-2.ensures i))) c.search.ensures
+    earlier_found a.text.now a.records.now a.index.now a.count a.d c.is_surface.ensures c.if-is_surface.false c.part-name.ensures c.search.ensures

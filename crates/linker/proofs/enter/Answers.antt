@@ -19,10 +19,9 @@ pub returns : goal.returns
 returns c =
     let a = c.args in
     let at-if1 = c.if-records-count in
-    let at_wide = c.wide in
     let at-line-of = c.line_of in
     let at-narrow = c.narrow-line in
     let at-enter-row = c.enter_row in
     let at-counted = c.counted-u in
     let at-between2 = c.between-2 in
-    record { value = behind_one a.text.now a.records.now a.index.now a.t at-if1.false at-enter-row.ensures.value at-counted.ensures at-between2.ensures; records_after = at-enter-row.ensures.records_after ∙ ap (entered_at a.text.now a.records.now a.index.now a.t.count a.t.draft) (at-narrow.ensures ∙ ap clipped (at-line-of.ensures ∙ ap (line_from a.text.now a.records.now a.t.count) at_wide.ensures)); index_after = at-enter-row.ensures.index_after }
+    record { value = behind_one a.text.now a.records.now a.index.now a.t at-if1.false at-enter-row.ensures.value at-counted.ensures at-between2.ensures; records_after = at-enter-row.ensures.records_after ∙ ap (entered_at a.text.now a.records.now a.index.now a.t.count a.t.draft) (at-narrow.ensures ∙ ap clipped at-line-of.ensures); index_after = at-enter-row.ensures.index_after }

@@ -43,7 +43,7 @@ module _ (c : Else-most-name) where
   word = c.args.word.now
 
   abbrev number : ℕ
-  number = c.search.n
+  number = c.search.row
 
   first : length word ≡ 0 → ⊥
   first = c.if-len-eq0.false
@@ -51,28 +51,31 @@ module _ (c : Else-most-name) where
   ends : length word - 1 < length word
   ends = omega (arith, first)
 
-  fits : c.wide-name.result + length word ≤ length text
+  abbrev place : ℕ
+  place = get_or records ((number - 1) * width + 3) 0
+
+  fits : place + length word ≤ length text
   fits =
-      find_fits text records word c.if-text-len.false _ refl number c.if-n-eq0.false _ _ c.wide-name.ensures c.wide-size.ensures c.if-size-len.false c.if-most-name.false
+      find_fits text records word c.if-text-len.false _ refl number (λ (e : _ ≡ 0). absurd (omega arith)) _ _ refl refl c.if-size-len.false c.if-most-name.false
 
-  misses : (i : ℕ) → i < length word → (get_or text (c.wide-name.result + i) 0 ≡ get_or word i 0 → ⊥) → latest_in text records word number ≡ latest_in text records word (number - 1)
+  misses : (i : ℕ) → i < length word → (get_or text (place + i) 0 ≡ get_or word i 0 → ⊥) → latest_in text records word number ≡ latest_in text records word (number - 1)
   misses i l h =
-      find_byte text records word c.if-text-len.false _ refl number c.if-n-eq0.false _ _ c.wide-name.ensures c.wide-size.ensures c.if-size-len.false c.if-most-name.false i l h
+      find_byte text records word c.if-text-len.false _ refl number (λ (e : _ ≡ 0). absurd (omega arith)) _ _ refl refl c.if-size-len.false c.if-most-name.false i l h
 
-  module _ (h : (k : ℕ) → k < length word → get_or text (c.wide-name.result + k) 0 ≡ get_or word k 0) where
+  module _ (h : (k : ℕ) → k < length word → get_or text (place + k) 0 ≡ get_or word k 0) where
     abbrev surface : Bool
     surface = is_surface (get_or records ((number - 1) * width + 0) 0)
 
     hit : surface ≡ false → latest_in text records word number ≡ number
     hit k =
-        find_hit text records word c.if-text-len.false _ refl number c.if-n-eq0.false _ _ c.wide-name.ensures c.wide-size.ensures c.if-size-len.false c.if-most-name.false h k
+        find_hit text records word c.if-text-len.false _ refl number (λ (e : _ ≡ 0). absurd (omega arith)) _ _ refl refl c.if-size-len.false c.if-most-name.false h k
 
     passes : surface ≡ true → latest_in text records word number ≡ latest_in text records word (number - 1)
     passes k =
-        find_surface text records word c.if-text-len.false _ refl number c.if-n-eq0.false _ _ c.wide-name.ensures c.wide-size.ensures c.if-size-len.false c.if-most-name.false h k
+        find_surface text records word c.if-text-len.false _ refl number (λ (e : _ ≡ 0). absurd (omega arith)) _ _ refl refl c.if-size-len.false c.if-most-name.false h k
 
 pub returns-then-len-eq0 : goal.returns-then-len-eq0
-returns-then-len-eq0 c = c.find_empty.ensures ∙ find_nothing _ _ _ _ _ c.if-len-eq0.true c.least-n.ensures
+returns-then-len-eq0 c = c.find_empty.ensures ∙ find_nothing _ _ _ _ _ c.if-len-eq0.true c.min-n.ensures
 
 pub returns-then-text-len : goal.returns-then-text-len
 returns-then-text-len c =
@@ -82,20 +85,17 @@ returns-then-text-len c =
 pub search-init : goal.search-init
 search-init c =
     let a = c.args in
-    (omega (arith, c.least-n.ensures), ap (latest_in a.text.now a.records.now a.word.now) (sym c.least-n.ensures))
+    (omega (arith, c.min-n.ensures), ap (latest_in a.text.now a.records.now a.word.now) (sym c.min-n.ensures))
 
 pub search-preserved-then-size-len : goal.search-preserved-then-size-len
 search-preserved-then-size-len c =
     let a = c.args in
-    (search rules, c.search.invariant.1 ∙ find_sized a.text.now a.records.now a.word.now c.if-text-len.false _ refl c.search.n c.if-n-eq0.false (get_or a.records.now ((c.search.n - 1) * width + 3) 0) _ refl c.wide-size.ensures c.if-size-len.true)
+    (search rules, c.search.invariant.1 ∙ find_sized a.text.now a.records.now a.word.now c.if-text-len.false _ refl c.search.row (λ (e : _ ≡ 0). absurd (omega arith)) (get_or a.records.now ((c.search.row - 1) * width + 3) 0) _ refl refl c.if-size-len.true)
 
 pub search-preserved-then-most-name : goal.search-preserved-then-most-name
 search-preserved-then-most-name c =
     let a = c.args in
-    (search rules, c.search.invariant.1 ∙ find_beyond a.text.now a.records.now a.word.now c.if-text-len.false _ refl c.search.n c.if-n-eq0.false _ _ c.wide-name.ensures c.wide-size.ensures c.if-most-name.true)
-
-pub overflow_add-name : goal.overflow_add-name
-overflow_add-name c = omega (arith, fits (goal.at.overflow_add-name c).Else-most-name, ends (goal.at.overflow_add-name c).Else-most-name)
+    (search rules, c.search.invariant.1 ∙ find_beyond a.text.now a.records.now a.word.now c.if-text-len.false _ refl c.search.row (λ (e : _ ≡ 0). absurd (omega arith)) _ _ refl refl c.if-most-name.true)
 
 pub bounds-text-name : goal.bounds-text-name
 bounds-text-name c = omega (arith, fits (goal.at.bounds-text-name c).Else-most-name, ends (goal.at.bounds-text-name c).Else-most-name)
@@ -123,11 +123,11 @@ pub search-preserved : goal.search-preserved
 search-preserved c =
     (search rules, c.search.invariant.1 ∙ passes (goal.at.search-preserved c).Else-most-name (λ k l. c.loop-i.invariant.1 k (omega (arith, c.loop-i-test.false)) l) (sym c.is_surface.ensures ∙ c.if-is_surface.true))
 
-pub returns-then-n-eq0 : goal.returns-then-n-eq0
-returns-then-n-eq0 c = sym (c.search.invariant.1 ∙ ap (latest_in _ _ _) c.if-n-eq0.true ∙ find_none _ _ _)
+pub returns : goal.returns
+returns c = sym (c.search.invariant.1 ∙ ap (latest_in _ _ _) (omega arith) ∙ find_none _ _ _)
 
-pub returns-else-is_surface : goal.returns-else-is_surface
-returns-else-is_surface c =
-    let n = c.search.n in
-    let e : n - 1 + 1 ≡ n = omega (arith, c.if-n-eq0.false) in
-    e ∙ sym (c.search.invariant.1 ∙ hit (goal.at.returns-else-is_surface c).Else-most-name (λ k l. c.loop-i.invariant.1 k (omega (arith, c.loop-i-test.false)) l) (sym c.is_surface.ensures ∙ c.if-is_surface.false))
+pub returns-in-search : goal.returns-in-search
+returns-in-search c =
+    let n = c.search.row in
+    let e : n - 1 + 1 ≡ n = omega arith in
+    e ∙ sym (c.search.invariant.1 ∙ hit (goal.at.returns-in-search c).Else-most-name (λ k l. c.loop-i.invariant.1 k (omega (arith, c.loop-i-test.false)) l) (sym c.is_surface.ensures ∙ c.if-is_surface.false))

@@ -1,5 +1,5 @@
 use mathlib.Core.Path.{◌≡◌}
-use Prim.Native.Nat.{ℕ, ◌+◌, ◌-◌, ◌/◌, ◌≤◌, ◌<◌, min}
+use Prim.Native.Nat.{ℕ, ◌+◌, ◌/◌, ◌≤◌, ◌<◌, min}
 use lib.ListN.{length, get_or}
 use Rattle.lookup.specs.Lookup.{latest_in}
 use Rattle.scene.specs.Record.{width}
@@ -9,11 +9,5 @@ use Rattle.lookup.proofs.find.Given as goal
 abbrev pub invariant-loop-i : goal.invariant-loop-i
 invariant-loop-i l = (l.i ≤ length l.word) × ((k : ℕ) → l.i ≤ k → k < length l.word → get_or l.text (l.name + k) 0 ≡ get_or l.word k 0)
 
-abbrev pub decreases-loop-i : goal.decreases-loop-i
-decreases-loop-i l = l.i
-
 abbrev pub invariant-search : goal.invariant-search
-invariant-search l = (l.n ≤ min l.count (length l.records / width)) × (latest_in l.text l.records l.word (min l.count (length l.records / width)) ≡ latest_in l.text l.records l.word l.n)
-
-abbrev pub decreases-search : goal.decreases-search
-decreases-search l = l.n
+invariant-search l = (l.row ≤ min l.count (length l.records / width)) × (latest_in l.text l.records l.word (min l.count (length l.records / width)) ≡ latest_in l.text l.records l.word l.row)

@@ -5,6 +5,3 @@ use Rattle.lookup.proofs.find_empty.Given as goal
 
 abbrev pub invariant-loop-n : goal.invariant-loop-n
 invariant-loop-n l = latest_in l.text l.records [] l.count ≡ latest_in l.text l.records [] l.n
-
-abbrev pub decreases-loop-n : goal.decreases-loop-n
-decreases-loop-n l = l.n

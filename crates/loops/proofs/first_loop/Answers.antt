@@ -1,6 +1,5 @@
 -- `loops::first_loop` meets its contract.
 use mathlib.Core.Path.{◌∙◌, refl}
-use Prim.Native.Nat.{◌-◌}
 use native.Mathlib.Omega.{arith}
 use lib.ListN.{length}
 use Rattle.graph.specs.Answers.{lowest}
@@ -10,7 +9,7 @@ use Rattle.loops.proofs.first_loop.Goals as goal
 
 pub loop-n-init : goal.loop-n-init
 unfolding lowest
-loop-n-init c = (refl, omega arith, omega arith, λ w. refl)
+loop-n-init c = (refl, omega arith, λ w. refl)
 
 pub returns-then-is_looped : goal.returns-then-is_looped
 returns-then-is_looped c =
@@ -18,7 +17,7 @@ returns-then-is_looped c =
     let l = c.loop-n in
     let test = c.loop-n-test.true in
     let a = c.args in
-    let g = graph_of a.records.now a.pairs.now in record { marks_len_unchanged = t.ensures.marks_len_unchanged ∙ l.invariant.0; finds = λ w. loop_found g (length a.marks.now) l.n (same_size g l.n l.invariant.0 t.ensures.tells) w l.invariant.1 (omega (arith, l.invariant.0, test)) (l.invariant.3 w) c.if-is_looped.true }
+    let g = graph_of a.records.now a.pairs.now in record { marks_len_unchanged = t.ensures.marks_len_unchanged ∙ l.invariant.0; finds = λ w. loop_found g (length a.marks.now) l.n (same_size g l.n l.invariant.0 t.ensures.tells) w (omega arith) (omega (arith, l.invariant.0, test)) (l.invariant.2 w) c.if-is_looped.true }
 
 pub loop-n-preserved : goal.loop-n-preserved
 loop-n-preserved c =
@@ -28,9 +27,8 @@ loop-n-preserved c =
     let a = c.args in
     let g = graph_of a.records.now a.pairs.now in (
       t.ensures.marks_len_unchanged ∙ l.invariant.0,
-      omega arith,
       omega (arith, l.invariant.0, test),
-      λ w. loop_passed g (length a.marks.now) l.n (same_size g l.n l.invariant.0 t.ensures.tells) w l.invariant.1 (omega (arith, l.invariant.0, test)) (l.invariant.3 w) c.if-is_looped.false,
+      λ w. loop_passed g (length a.marks.now) l.n (same_size g l.n l.invariant.0 t.ensures.tells) w (omega arith) (omega (arith, l.invariant.0, test)) (l.invariant.2 w) c.if-is_looped.false,
     )
 
 pub shape_of-marks : goal.shape_of-marks
@@ -40,4 +38,4 @@ pub returns : goal.returns
 returns c =
     let l = c.loop-n in
     let a = c.args in
-    record { marks_len_unchanged = l.invariant.0; finds = λ w. loop_none (graph_of a.records.now a.pairs.now) (length a.marks.now) l.n (omega (arith, l.invariant.0, l.invariant.1, l.invariant.2, c.loop-n-test.false)) (l.invariant.3 w) }
+    record { marks_len_unchanged = l.invariant.0; finds = λ w. loop_none (graph_of a.records.now a.pairs.now) (length a.marks.now) l.n (omega (arith, l.invariant.0, l.invariant.1, c.loop-n-test.false)) (l.invariant.2 w) }

@@ -7,7 +7,4 @@ use Rattle.loops.specs.Found.{NoneBelow}
 use Rattle.loops.proofs.first_loop.Given as goal
 
 abbrev pub invariant-loop-n : goal.invariant-loop-n
-invariant-loop-n l = (length l.marks ≡ length l.initial.marks) × (1 ≤ l.n) × (l.n - 1 ≤ length l.initial.marks - 1) × (Within (graph_of l.records l.pairs) (length l.initial.marks) → NoneBelow (graph_of l.records l.pairs) (length l.initial.marks) l.n)
-
-abbrev pub decreases-loop-n : goal.decreases-loop-n
-decreases-loop-n l = length l.initial.marks - l.n
+invariant-loop-n l = (length l.marks ≡ length l.initial.marks) × (l.n - 1 ≤ length l.initial.marks - 1) × (Within (graph_of l.records l.pairs) (length l.initial.marks) → NoneBelow (graph_of l.records l.pairs) (length l.initial.marks) l.n)

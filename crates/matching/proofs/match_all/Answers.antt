@@ -1,5 +1,5 @@
 -- `matching::match_all` meets its contract.
-use Prim.Native.Nat.{◌+◌, ◌-◌}
+use Prim.Native.Nat.{◌+◌}
 use native.Mathlib.Omega.{arith}
 use Rattle.matching.proofs.MatchLaws.{match_there}
 use Rattle.name_index.proofs.NameLaws.{number_low}
@@ -13,12 +13,12 @@ loop-i-init c = tabling_none _ _
 pub match_with-requires : goal.match_with-requires
 match_with-requires c =
     let a = c.args in
-    omega (arith, c.number_there-n.ensures, number_low a.b.now a.b_records.now (name_in a.a.now a.a_records.now (c.loop-i.i + 1)))
+    omega (arith, c.number_there-n.ensures, number_low a.b.text.now a.b.records.now (name_in a.a.text.now a.a.records.now (c.loop-i.i + 1)))
 
 pub loop-i-preserved : goal.loop-i-preserved
 loop-i-preserved c =
     let a = c.args in
-    tabling_more _ _ _ c.loop-i.i c.loop-i.invariant _ (match_there a.a.now a.a_records.now a.a_reals.now a.b.now a.b_records.now a.b_reals.now _ _ _ c.number_there-n.ensures c.match_with.ensures) (omega arith)
+    tabling_more _ _ _ c.loop-i.i c.loop-i.invariant _ (match_there a.a.text.now a.a.records.now a.a.reals.now a.b.text.now a.b.records.now a.b.reals.now _ _ _ c.number_there-n.ensures c.match_with.ensures) (omega arith)
 
 pub shape_of-matches : goal.shape_of-matches
 shape_of-matches c = c.loop-i.invariant.size

@@ -5,4 +5,4 @@ use Rattle.matching.proofs.number_there.Goals as goal
 pub returns : goal.returns
 returns c =
     let a = c.args in
-    found_number a.b.now a.b_records.now _ _ _ _ _ c.requires c.name_of.ensures c.search-found.ensures
+    found_number a.b.text.now a.b.records.now _ _ _ _ _ c.requires c.name_of-name.ensures c.search.ensures

@@ -1,14 +1,15 @@
 -- `mover::move_glass` meets its contract.
-use mathlib.Core.Path.{sym, ◌∙◌}
-use Rattle.mover.proofs.AnswerLaws.{moves_refused, moves_same}
+use mathlib.Core.Path.{ap, ◌∙◌}
+use lib.ListN.{length}
+use Rattle.writer.proofs.AnswerLaws.{left_cleared}
+use Rattle.writer.specs.Answer.{answer_of}
+use Rattle.mover.specs.Answer.{moved_by}
 use Rattle.mover.proofs.move_glass.Goals as goal
 
-pub returns-in-Refused : goal.returns-in-Refused
-returns-in-Refused c =
+pub returns : goal.returns
+returns c =
     let a = c.args in
-    moves_refused a.mode a.direction a.text.now a.records.now a.reals.now a.out.now _ _ (sym c.in-Refused.is ∙ c.compare.ensures) c.clear_from.ensures
-
-pub returns-in-Same : goal.returns-in-Same
-returns-in-Same c =
-    let a = c.args in
-    moves_same a.mode a.direction a.text.now a.records.now a.reals.now a.out.now c.least-room.result _ c.least-room.ensures c.write_moved.ensures (sym c.in-Same.is ∙ c.compare.ensures)
+    record {
+      says = ap answer_of c.clear_unused.ensures.value ∙ c.put_checked-moved.ensures.says;
+      output = left_cleared (moved_by a.mode a.direction a.text.now a.records.now a.reals.now (length a.out.now)) a.out.now _ _ c.put_checked-moved.ensures c.clear_unused.ensures.out_after;
+    }

@@ -20,7 +20,7 @@ pub returns-in-Kept : goal.returns-in-Kept
 returns-in-Kept c =
     let a = c.args in
     let count_is = c.field-in-Kept.ensures ∙ reals_field a.records.now a.n in
-    c.least.ensures
+    c.min.ensures
     ∙ ap (λ (k : ℕ). min k 4097) count_is
     ∙ of_own a.direction a.text.now a.records.now a.n (own (goal.at.returns-in-Kept c).Else-field-ne0) (sym c.in-Kept.is ∙ c.change_of.ensures)
 

@@ -1,6 +1,5 @@
 -- `name_index::index_names` meets its contract.
 use mathlib.Core.Path.{◌≡◌, ap, sym, ◌∙◌}
-use Prim.Native.Nat.{◌-◌}
 use native.Mathlib.Omega.{arith}
 use Rattle.index.specs.Index.{index_by}
 use Rattle.name_index.proofs.NameLaws.{entered_next, index_sized}
@@ -25,6 +24,6 @@ loop-n-preserved c =
 pub returns : goal.returns
 returns c =
     let a = c.args in
-    let m = c.count-many.ensures in
+    let m = c.count-n-end.ensures in
     let e : c.loop-n.n ≡ count_in a.records.now = omega (arith, c.loop-n.invariant.0) in
     c.loop-n.invariant.1 ∙ ap (index_by (rows a.text.now a.records.now)) e

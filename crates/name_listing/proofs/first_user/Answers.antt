@@ -1,5 +1,4 @@
 -- `name_listing::first_user` meets its contract.
-use Prim.Native.Nat.{◌-◌}
 use Rattle.name_listing.proofs.LineLaws.{first_found, none_first, not_yet}
 use borrow.Author.Rules.{rules}
 use mathlib.Core.Path.{◌∙◌, ◌≡◌, sym}

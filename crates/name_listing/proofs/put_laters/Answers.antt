@@ -1,5 +1,4 @@
 -- `name_listing::put_laters` meets its contract.
-use Prim.Native.Nat.{◌-◌}
 use Rattle.lines.proofs.PutsLaws.{puts_as, puts_length, puts_more, puts_none}
 use Rattle.name_listing.proofs.LineLaws.{laters_more, laters_none}
 use Rattle.name_listing.specs.NameLine.{later_users}

@@ -1,5 +1,4 @@
 -- `name_order::merge_runs` meets its contract.
-use Prim.Native.Nat.{◌-◌}
 use native.Mathlib.Omega.{arith}
 use lib.ListN.{length}
 use Rattle.name_order.proofs.RunLaws.{nearer, merged_slices, paired_none, paired_more, paired_all}
@@ -20,7 +19,7 @@ loop-at-preserved c =
     let a = c.args in
     let l = c.loop-at in
     let less = earlier a.text.now a.records.now in
-    let put = merged_slices less a.from.now l.to l.at a.width c.least-middle.result c.least-end.result (omega arith) c.least-middle.ensures c.least-end.ensures c.merge.new.out c.merge.ensures in
+    let put = merged_slices less a.from.now l.to l.at a.width c.min-middle.result c.min-end.result (omega arith) c.min-middle.ensures c.min-end.ensures c.merge.new.out c.merge.ensures in
     (omega arith, paired_more less (earlier_strict a.text.now a.records.now) a.from.now l.to a.width l.at c.requires.runs l.invariant.1 c.loop-at-test.true _ put)
 
 pub returns : goal.returns

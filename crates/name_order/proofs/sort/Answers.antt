@@ -1,6 +1,5 @@
 -- `name_order::sort` meets its contract.
 use mathlib.Core.Path.{refl, ap, ◌∙◌}
-use Prim.Native.Nat.{◌-◌}
 use native.Mathlib.Omega.{arith}
 use Rattle.name_order.proofs.RunLaws.{numbered_runs, runs_sorted}
 use Rattle.name_order.proofs.SortLaws.{earlier_strict}

@@ -1,7 +1,7 @@
 -- `numeral_parts::push` meets its contract.
-use native.Mathlib.Omega.{arith}
+use Rattle.std.proofs.Common.{arith}
 use Rattle.numeral_parts.proofs.DigitLaws.{digit_low}
 use Rattle.numeral_parts.proofs.push.Goals as goal
 
-pub overflow_sub-m : goal.overflow_sub-m
-overflow_sub-m c = omega (arith, c.wide.ensures, digit_low c.args.b c.requires.1)
+pub overflow_sub-b : goal.overflow_sub-b
+overflow_sub-b c = omega (arith, digit_low c.args.b c.requires.1)

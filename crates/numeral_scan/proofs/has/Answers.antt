@@ -1,9 +1,9 @@
 -- `numeral_scan::has` meets its contract.
-use Rattle.numeral_scan.proofs.PieceLaws.{stands_here, stands_past}
+use Rattle.std.proofs.Common.{◌∙◌}
+use Rattle.numeral_parts.proofs.PartLaws.{byte_there}
+use Rattle.numeral_scan.specs.Pieces.{stands}
 use Rattle.numeral_scan.proofs.has.Goals as goal
 
-pub returns-then-at-text : goal.returns-then-at-text
-returns-then-at-text c = stands_here _ _ _ c.if-at-text.true
-
 pub returns : goal.returns
-returns c = stands_past _ _ _ c.if-at-text.false
+unfolding stands
+returns c = c.eq.ensures ∙ byte_there c.args.text.now c.args.at _ _ c.get.ensures.lookup

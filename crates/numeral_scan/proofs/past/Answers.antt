@@ -1,6 +1,5 @@
 -- `numeral_scan::past` meets its contract.
-use mathlib.Core.Path.{sym, ◌∙◌}
-use native.Mathlib.Omega.{arith}
+use Rattle.std.proofs.Common.{sym, ◌∙◌, arith}
 use Rattle.numeral_scan.proofs.PieceLaws.{stands_within}
 use Rattle.numeral_scan.proofs.past.Goals as goal
 
@@ -10,5 +9,5 @@ overflow_add-result c = omega (arith, stands_within _ _ _ (sym c.has.ensures ∙
 pub returns-then-has : goal.returns-then-has
 returns-then-has c = rw (← c.has.ensures, c.if-has.true)
 
-pub returns : goal.returns
-returns c = rw (← c.has.ensures, c.if-has.false)
+pub returns-else-has : goal.returns-else-has
+returns-else-has c = rw (← c.has.ensures, c.if-has.false)

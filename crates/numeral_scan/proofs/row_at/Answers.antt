@@ -1,12 +1,9 @@
 -- `numeral_scan::row_at` meets its contract: at each turn the digits passed are a row, which is what is answered.
-use mathlib.Core.Bool.{true}
-use mathlib.Core.Path.{◌≡◌, sym, ◌∙◌}
-use Prim.Native.Nat.{◌-◌}
-use native.Mathlib.Omega.{arith}
-use lib.ListN.{get_or}
+use Rattle.std.proofs.Common.{◌≡◌, ℕ, true, sym, subst, ◌∙◌, arith, get_or}
 use Rattle.numeral_parts.proofs.DigitLaws.{digit_low, digit_high}
 use Rattle.numeral_parts.specs.Digits.{is_digit}
 use Rattle.numeral_scan.proofs.PieceLaws.{row_none, row_step}
+use Rattle.numeral_scan.specs.Pieces.{RowAt}
 use Rattle.numeral_scan.proofs.row_at.Goals as goal
 use Rattle.numeral_scan.proofs.row_at.Goals.{Else-value-ge-ROOM}
 
@@ -20,17 +17,18 @@ loop-i-init c = row_none _ _ _ c.requires
 pub returns-then-not-is_digit : goal.returns-then-not-is_digit
 returns-then-not-is_digit c = c.loop-i.invariant
 
-pub returns-then-value-ge-ROOM : goal.returns-then-value-ge-ROOM
-returns-then-value-ge-ROOM c = c.loop-i.invariant
-
-pub overflow_sub-value : goal.overflow_sub-value
-overflow_sub-value c = omega (arith, c.wide.ensures, digit_low _ (digit (goal.at.overflow_sub-value c).Else-value-ge-ROOM))
+pub overflow_sub-b : goal.overflow_sub-b
+overflow_sub-b c = omega (arith, digit_low _ (digit (goal.at.overflow_sub-b c).Else-value-ge-ROOM))
 
 pub overflow_add-value : goal.overflow_add-value
-overflow_add-value c = omega (arith, c.wide.ensures, digit_high _ (digit (goal.at.overflow_add-value c).Else-value-ge-ROOM))
+overflow_add-value c = omega (arith, c.from.ensures, digit_high _ (digit (goal.at.overflow_add-value c).Else-value-ge-ROOM))
 
 pub loop-i-preserved : goal.loop-i-preserved
-loop-i-preserved c = row_step _ _ _ _ _ c.loop-i.invariant c.loop-i-test.true _ c.wide.ensures (digit (goal.at.loop-i-preserved c).Else-value-ge-ROOM) c.if-value-ge-ROOM.false
+loop-i-preserved c = row_step _ _ _ _ _ c.loop-i.invariant c.loop-i-test.true _ c.from.ensures (digit (goal.at.loop-i-preserved c).Else-value-ge-ROOM) c.if-value-ge-ROOM.false
 
+-- where the loop ends at once, the place is past the text's end
 pub returns : goal.returns
-returns c = c.loop-i.invariant
+returns c =
+    let r = c.loop-i.invariant in
+    let last : c.loop-i.i ≡ c.max.result = omega (arith, c.max.ensures, r.piece.forward, r.piece.most, c.loop-i-test.false) in
+    subst (λ (e : ℕ). RowAt c.args.text.now c.args.at c.args.n record { end = e; value = c.loop-i.value }) last r

@@ -6,4 +6,4 @@ pub returns-then-is_idle : goal.returns-then-is_idle
 returns-then-is_idle c = rw (sym c.is_idle.ensures ∙ c.if-is_idle.true)
 
 pub returns : goal.returns
-returns c = rw (sym c.is_idle.ensures ∙ c.if-is_idle.false)
+returns c = c.refused.ensures ∙ rw (sym c.is_idle.ensures ∙ c.if-is_idle.false)

@@ -6,7 +6,7 @@ use Rattle.laws.proofs.RunLaws.{past_most}
 use Rattle.lexer.specs.Class.{is_in_line}
 use Rattle.parser.proofs.StepLaws.{ends, opens, opens_command, scanned, word_of_lem}
 use Rattle.statement.specs.States.{moved_to}
-use Rattle.statement.specs.declared.Step.TheVariants.{Going}
+use Rattle.statement.specs.Step.{Going}
 use Rattle.parser.proofs.next_step.Goals as goal
 
 pub returns-then-word-eq0 : goal.returns-then-word-eq0
@@ -28,7 +28,8 @@ returns-in-Comment c =
 
 pub returns-in-Command : goal.returns-in-Command
 returns-in-Command c =
-    opens_command _ _ _ _ _ _ _ (word_of_lem _ _ _ c.checked_word-word.ensures) c.if-word-eq0.false (sym c.opens.ensures ∙ c.in-Command.is)
+    c.refused.ensures
+    ∙ opens_command _ _ _ _ _ _ _ (word_of_lem _ _ _ c.checked_word-word.ensures) c.if-word-eq0.false (sym c.opens.ensures ∙ c.in-Command.is)
 
 pub returns-in-Word : goal.returns-in-Word
 returns-in-Word c =

@@ -14,7 +14,7 @@ pub returns-then-mark-eq-CLASHES : goal.returns-then-mark-eq-CLASHES
 returns-then-mark-eq-CLASHES c =
     let a = c.args in
     let l = c.loop-i in
-    picks_clash (mark_at a.left_right.now a.left_base.now a.right_left.now a.right_base.now) _ _ l.count l.i l.invariant _ c.mark_at-mark.ensures c.if-mark-eq-CLASHES.true (omega (arith, l.invariant.table.size))
+    picks_clash (mark_at a.left_right.now a.left_base.now a.right_left.now a.right_base.now) _ _ l.count l.i l.invariant _ c.mark_at-mark.ensures c.if-mark-eq-CLASHES.true (omega (arith, l.invariant.table.size)) _
 
 pub overflow_add-count : goal.overflow_add-count
 overflow_add-count c =

@@ -8,8 +8,8 @@ use Rattle.plain.proofs.first_real.Goals as goal
 pub returns-then-n-eq0 : goal.returns-then-n-eq0
 returns-then-n-eq0 c = ap (λ (z : Bool). cond z 0 (clipped c.args.used)) (sym (eq-eqb c.args.n 0 c.if-n-eq0.true))
 
-pub returns : goal.returns
-returns c =
+pub returns-else-n-eq0 : goal.returns-else-n-eq0
+returns-else-n-eq0 c =
     let a = c.args in
     let at-if1 = c.if-n-eq0 in
     let at-narrow = c.narrow in

@@ -11,7 +11,7 @@ use Rattle.planning.proofs.match_hands.Goals as goal
 pub slice_bounds-match_all-end-2 : goal.slice_bounds-match_all-end-2
 slice_bounds-match_all-end-2 c =
     let a = c.args in
-    let h : length a.right_records.now / 11 ≤ length a.others.now = omega arith in
+    let h : length a.right.records.now / 11 ≤ length a.others.now = omega arith in
     sym (length-take-le _ _ h)
 
 pub returns : goal.returns
@@ -19,4 +19,4 @@ returns c =
     let a = c.args in
     let front = c.match_all in
     let rest = c.match_all-2 in
-    both_tabled (match_of a.right.now a.right_records.now a.right_reals.now a.left.now a.left_records.now a.left_reals.now) (match_of a.left.now a.left_records.now a.left_reals.now a.right.now a.right_records.now a.right_reals.now) a.others.now front.new.matches rest.new.matches (length a.right_records.now / 11) (length a.left_records.now / 11) c.requires front.ensures rest.ensures
+    both_tabled (match_of a.right.text.now a.right.records.now a.right.reals.now a.left.text.now a.left.records.now a.left.reals.now) (match_of a.left.text.now a.left.records.now a.left.reals.now a.right.text.now a.right.records.now a.right.reals.now) a.others.now front.new.matches rest.new.matches (length a.right.records.now / 11) (length a.left.records.now / 11) c.requires front.ensures rest.ensures

@@ -1,27 +1,20 @@
 -- `polygon::all_finite` meets its contract.
-use mathlib.Core.Path.{sym, ◌∙◌}
-use Prim.Native.Nat.{◌-◌}
-use lib.Ieee.Scale.{finite}
-use Rattle.polygon.proofs.EdgeLaws.{all_end, all_on, all_stop}
+use Rattle.std.proofs.Common.{◌≡◌, ◌∙◌, Bool, List, [], ◌∷◌, refl, ap, rules, ◌&&◌}
+use Rattle.std.proofs.lemmas.Iterator.{YieldsList-from_slice}
+use Rattle.std.proofs.lemmas.Iterator.Search.{all_from_yields_List}
+use Rattle.std.specs.Float.Ieee.Scale.{finite}
+use Rattle.std.specs.List.{list_all}
+use Rattle.laws.specs.Runs.{all}
+use borrow.Author.Tests.{tests}
 use Rattle.polygon.proofs.all_finite.Goals as goal
 
-pub returns-then-not-is_finite : goal.returns-then-not-is_finite
-returns-then-not-is_finite c =
-    let a = c.args in
-    let at-loop = c.loop-i in
-    let at-loop-test = c.loop-i-test in
-    let at-is-finite = c.is_finite in
-    let at-if1 = c.if-not-is_finite in
-    all_stop finite a.reals.now at-loop.i at-loop-test.true (sym at-is-finite.ensures ∙ at-if1.true) ∙ at-loop.invariant
-
-pub loop-i-preserved : goal.loop-i-preserved
-loop-i-preserved c =
-    let a = c.args in
-    let at-loop = c.loop-i in
-    let at-loop-test = c.loop-i-test in
-    let at-is-finite = c.is_finite in
-    let at-if1 = c.if-not-is_finite in
-    all_on finite a.reals.now at-loop.i at-loop-test.true (sym at-is-finite.ensures ∙ at-if1.false) ∙ at-loop.invariant
+-- std's test of a whole list is that of `laws`
+all_same : {A : Type 0} (test : A → Bool) (xs : List A) → list_all test xs ≡ all test xs
+unfolding all
+all_same test [] = refl
+all_same test (x ∷ xs) = ap (λ b. test x && b) (all_same test xs)
 
 pub returns : goal.returns
-returns c = all_end finite c.args.reals.now c.loop-i.i c.loop-i-test.false ∙ c.loop-i.invariant
+returns c =
+    all_from_yields_List finite _ _ c.all.result c.all.ensures.ran (YieldsList-from_slice c.args.reals.now c.iter.ensures.rest) (λ x b q k. search (rules, tests))
+    ∙ all_same finite c.args.reals.now

@@ -1,13 +1,14 @@
 -- `polygon::inside_of` meets its contract.
-use mathlib.Core.Bool.{Bool}
-use mathlib.Core.Path.{ap, sym, ◌∙◌}
-use Prim.Native.Nat.{◌*◌, ◌-◌}
+use mathlib.Core.List.{[]}
+use mathlib.Core.Path.{◌≡◌}
+use Prim.Native.Nat.{◌*◌}
 use native.Mathlib.Omega.{arith}
-use borrow.Author.Tests.{not-false, not-true}
-use lib.ListN.{length-drop}
-use Rattle.polygon.proofs.EdgeLaws.{corners_end, crosses_first, crosses_last, crosses_more, crosses_not}
-use Rattle.edges.specs.Code.{axis_of, when}
+use lib.ListN.{drop, length-drop}
+use Rattle.polygon.proofs.EdgeLaws.{corners_end, crosses_first, crosses_last, crosses_last_not, crosses_more, crosses_not, flipped}
+use Rattle.edges.specs.Code.{axis_of}
+use Rattle.edges.specs.Corners.{corners_of}
 use Rattle.polygon.proofs.inside_of.Goals as goal
+use Rattle.polygon.proofs.inside_of.Goals.{After-loop-i}
 
 pub loop-i-init : goal.loop-i-init
 loop-i-init c =
@@ -19,34 +20,25 @@ loop-i-init c =
 pub corner-to-requires : goal.corner-to-requires
 corner-to-requires c = omega (arith, c.loop-i-test.true)
 
-pub returns-then-not-e : goal.returns-then-not-e
-returns-then-not-e c =
+pub returns-in_err-odd : goal.returns-in_err-odd
+returns-in_err-odd c =
     let a = c.args in
-    let at-corner = c.corner-first in
-    let at-loop = c.loop-i in
-    let at-corner2 = c.corner-to in
-    let at-crossed-edge = c.crossed_edge-e in
-    let at-if1 = c.if-not-e in
-    (ap (λ (w : Bool). when w at-crossed-edge.result.odd) (not-true at-crossed-edge.result.worked at-if1.true)) ∙ crosses_not (axis_of a.a) a.p a.reals.now at-corner.result at-loop.from at-corner2.result at-loop.odd at-loop.i at-loop.invariant.0 at-corner2.ensures (sym (ap (λ (w : Bool). when w at-crossed-edge.result.odd) (not-true at-crossed-edge.result.worked at-if1.true)) ∙ at-crossed-edge.ensures)
+    rw c.from_residual.ensures (crosses_not (axis_of a.a) a.p a.reals.now c.corner-first.result c.loop-i.from c.corner-to.result c.loop-i.odd c.loop-i.i c.loop-i.invariant.0 c.corner-to.ensures c.in_err-odd.ensures)
 
 pub loop-i-preserved : goal.loop-i-preserved
 loop-i-preserved c =
     let a = c.args in
-    let at-corner = c.corner-first in
-    let at-loop = c.loop-i in
-    let at-loop-test = c.loop-i-test in
-    let at-corner2 = c.corner-to in
-    let at-crossed-edge = c.crossed_edge-e in
-    let at-if1 = c.if-not-e in
-    let at-flipped = c.flipped-odd in
-    (crosses_more (axis_of a.a) a.p a.reals.now at-corner.result at-loop.from at-corner2.result at-loop.odd at-crossed-edge.result.odd _ at-loop.i at-loop.invariant.0 at-corner2.ensures (sym (ap (λ (w : Bool). when w at-crossed-edge.result.odd) (not-false at-crossed-edge.result.worked at-if1.false)) ∙ at-crossed-edge.ensures) at-flipped.ensures, omega (arith, at-loop-test.true))
+    (crosses_more (axis_of a.a) a.p a.reals.now c.corner-first.result c.loop-i.from c.corner-to.result c.loop-i.odd c.in_ok-odd.field-0 _ c.loop-i.i c.loop-i.invariant.0 c.corner-to.ensures c.in_ok-odd.ensures (flipped c.loop-i.odd c.in_ok-odd.field-0), omega (arith, c.loop-i-test.true))
+
+past : (c : After-loop-i) → corners_of (drop (c.loop-i.i * 3) c.args.reals.now) ≡ []
+past c = corners_end c.args.reals.now c.loop-i.i (omega (arith, c.loop-i-test.false, length-drop (c.loop-i.i * 3) c.args.reals.now))
+
+pub returns-in_err-crossed_edge : goal.returns-in_err-crossed_edge
+returns-in_err-crossed_edge c =
+    let a = c.args in
+    rw c.from_residual-in_err-crossed_edge.ensures (crosses_last_not (axis_of a.a) a.p a.reals.now c.corner-first.result c.loop-i.from c.loop-i.odd c.loop-i.i c.loop-i.invariant.0 (past (goal.at.returns-in_err-crossed_edge c).After-loop-i) c.in_err-crossed_edge.ensures)
 
 pub returns : goal.returns
 returns c =
     let a = c.args in
-    let at-corner = c.corner-first in
-    let at-loop = c.loop-i in
-    let at-loop-test = c.loop-i-test in
-    let at-crossed-edge2 = c.crossed_edge-last in
-    let at-flipped2 = c.flipped in
-    crosses_last (axis_of a.a) a.p a.reals.now at-corner.result at-loop.from at-loop.odd at-crossed-edge2.result.worked at-crossed-edge2.result.odd _ at-loop.i at-loop.invariant.0 (corners_end a.reals.now at-loop.i (omega (arith, at-loop-test.false, length-drop (at-loop.i * 3) a.reals.now))) at-crossed-edge2.ensures at-flipped2.ensures
+    crosses_last (axis_of a.a) a.p a.reals.now c.corner-first.result c.loop-i.from c.loop-i.odd c.in_ok-crossed_edge.field-0 _ c.loop-i.i c.loop-i.invariant.0 (past (goal.at.returns c).After-loop-i) c.in_ok-crossed_edge.ensures (flipped c.loop-i.odd c.in_ok-crossed_edge.field-0)

@@ -1,4 +1,4 @@
-use Prim.Native.Nat.{◌*◌, ◌-◌, ◌≤◌}
+use Prim.Native.Nat.{◌*◌, ◌≤◌}
 use lib.ListN.{length}
 use Rattle.polygon.proofs.EdgeLaws.{Crosses}
 use Rattle.edges.specs.Code.{axis_of}
@@ -6,6 +6,3 @@ use Rattle.polygon.proofs.inside_of.Given as goal
 
 abbrev pub invariant-loop-i : goal.invariant-loop-i
 invariant-loop-i l = Crosses (axis_of l.a) l.p l.reals l.first l.from l.odd l.i × (l.i * 3 ≤ length l.reals)
-
-abbrev pub decreases-loop-i : goal.decreases-loop-i
-decreases-loop-i l = length l.reals - l.i

@@ -1,5 +1,5 @@
 -- `polygon::normal` meets its contract.
-use Prim.Native.Nat.{◌*◌, ◌-◌}
+use Prim.Native.Nat.{◌*◌}
 use native.Mathlib.Omega.{arith}
 use lib.ListN.{length-drop}
 use Rattle.polygon.proofs.EdgeLaws.{adds_first, adds_last, adds_more, corners_end}

@@ -1,5 +1,4 @@
 -- `precedence::all_fit` meets its contract.
-use Prim.Native.Nat.{◌-◌}
 use Rattle.precedence.proofs.AnswerLaws.{fits_all, fits_more, fits_none, fits_not}
 use borrow.Author.Rules.{rules}
 use Rattle.precedence.proofs.all_fit.Goals as goal

@@ -1,6 +1,5 @@
 -- `precedence::fill` meets its contract.
 use mathlib.Core.Path.{◌≡◌, refl, ◌∙◌}
-use Prim.Native.Nat.{◌-◌}
 use native.Mathlib.Omega.{arith}
 use lib.ListN.{length, length-set}
 use Rattle.precedence.proofs.ChainLaws.{behind_low, filled_all, filled_last, filled_none, filled_one}
@@ -14,9 +13,6 @@ loop-k-init c = (refl, omega arith, filled_last _ c.args.lengths.now (omega arit
 sized : (c : At-loop-k) → length c.loop-k.lengths ≡ length c.args.lengths.now
 sized c = c.loop-k.invariant.0 ∙ simp length-set
 
-pub offset_bounds-lengths-k-then-behind-eq0 : goal.offset_bounds-lengths-k-then-behind-eq0
-offset_bounds-lengths-k-then-behind-eq0 c = omega (arith, sized (goal.at.offset_bounds-lengths-k-then-behind-eq0 c).At-loop-k)
-
 pub loop-k-preserved-then-behind-eq0 : goal.loop-k-preserved-then-behind-eq0
 loop-k-preserved-then-behind-eq0 c =
     (simp length-set (sized (goal.at.loop-k-preserved-then-behind-eq0 c).At-loop-k), omega arith, filled_none _ _ _ _ _ c.loop-k.invariant.2 (omega arith) c.nearest-behind.ensures c.if-behind-eq0.true)
@@ -24,9 +20,6 @@ loop-k-preserved-then-behind-eq0 c =
 pub overflow_add-lengths : goal.overflow_add-lengths
 overflow_add-lengths c =
     omega (arith, sized (goal.at.overflow_add-lengths c).At-loop-k, behind_low _ _ _ _ _ c.loop-k.invariant.2 (omega arith) c.nearest-behind.ensures)
-
-pub offset_bounds-lengths-k-in-loop-k : goal.offset_bounds-lengths-k-in-loop-k
-offset_bounds-lengths-k-in-loop-k c = omega (arith, sized (goal.at.offset_bounds-lengths-k-in-loop-k c).At-loop-k)
 
 pub loop-k-preserved : goal.loop-k-preserved
 loop-k-preserved c =
@@ -36,4 +29,4 @@ pub shape_of-lengths : goal.shape_of-lengths
 shape_of-lengths c = sized (goal.at.shape_of-lengths c).At-loop-k
 
 pub returns : goal.returns
-returns c = filled_all _ _ _ _ c.loop-k.invariant.2 c.loop-k.invariant.1 c.loop-k-test.false
+returns c = filled_all _ _ _ _ c.loop-k.invariant.2 (omega arith) (omega arith)

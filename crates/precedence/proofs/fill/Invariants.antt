@@ -1,5 +1,5 @@
 use mathlib.Core.Path.{◌≡◌}
-use Prim.Native.Nat.{◌-◌, ◌≤◌}
+use Prim.Native.Nat.{◌≤◌}
 use lib.ListN.{length}
 use Rattle.ties.specs.Ties.{bound_rows}
 use Rattle.precedence.specs.Code.{Filled}
@@ -7,6 +7,3 @@ use Rattle.precedence.proofs.fill.Given as goal
 
 abbrev pub invariant-loop-k : goal.invariant-loop-k
 invariant-loop-k l = (length l.lengths ≡ length l.initial.lengths) × (l.first ≤ l.k) × Filled (bound_rows l.records l.classes) l.lengths l.k
-
-abbrev pub decreases-loop-k : goal.decreases-loop-k
-decreases-loop-k l = l.k

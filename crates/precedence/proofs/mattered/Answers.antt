@@ -1,28 +1,21 @@
 -- `precedence::mattered` meets its contract.
-use Rattle.precedence.proofs.AnswerLaws.{order_falling, order_refused, order_rising, ordered_falling, ordered_rising}
+use mathlib.Core.Path.{refl, ap, sym, ◌∙◌}
+use Rattle.precedence.proofs.AnswerLaws.{order_asked, order_refused, ordered_both}
+use Rattle.table.proofs.RefusalLaws.{refused_number, taken_number}
 use Rattle.precedence.proofs.mattered.Goals as goal
-
-pub returns-then-reason-ne0 : goal.returns-then-reason-ne0
-returns-then-reason-ne0 c =
-    let a = c.args in
-    order_refused a.text.now a.records.now a.count a.first a.second _ c.refusal-reason.ensures c.if-reason-ne0.true
 
 pub between-requires : goal.between-requires
 between-requires c =
     let a = c.args in
-    ordered_rising a.text.now a.records.now a.count a.first a.second _ c.refusal-reason.ensures c.if-reason-ne0.false c.if-first-second.true
+    ordered_both a.text.now a.records.now a.count a.first a.second 0 (sym (taken_number c.refusal.result _ _ c.in-Ok.is c.refusal.ensures)) refl c.min.ensures c.max.ensures
 
-pub returns-then-first-second : goal.returns-then-first-second
-returns-then-first-second c =
+pub returns-in-Ok : goal.returns-in-Ok
+returns-in-Ok c =
     let a = c.args in
-    order_rising a.text.now a.records.now a.count a.first a.second _ c.refusal-reason.ensures c.if-reason-ne0.false c.if-first-second.true _ c.between.ensures
+    order_asked a.text.now a.records.now a.count a.first a.second 0 (sym (taken_number c.refusal.result _ _ c.in-Ok.is c.refusal.ensures)) refl c.min.ensures c.max.ensures c.between.ensures
 
-pub between-requires-2 : goal.between-requires-2
-between-requires-2 c =
+pub returns-in-Err : goal.returns-in-Err
+returns-in-Err c =
     let a = c.args in
-    ordered_falling a.text.now a.records.now a.count a.first a.second _ c.refusal-reason.ensures c.if-reason-ne0.false c.if-first-second.false
-
-pub returns : goal.returns
-returns c =
-    let a = c.args in
-    order_falling a.text.now a.records.now a.count a.first a.second _ c.refusal-reason.ensures c.if-reason-ne0.false c.if-first-second.false _ c.between-2.ensures
+    let known = refused_number c.refusal.result c.in-Err.reason _ c.in-Err.is c.refusal.ensures in
+    order_refused a.text.now a.records.now a.count a.first a.second _ (c.number.ensures ∙ known.0) (λ z. known.1 (sym known.0 ∙ sym c.number.ensures ∙ z))

@@ -1,17 +1,11 @@
 -- `ranks::order_names` meets its contract.
-use mathlib.Core.Path.{sym}
-use Prim.Native.Nat.{◌/◌}
 use native.Mathlib.Omega.{arith}
 use lib.ListN.{length}
-use lib.Seq.{length-take-le}
-use Rattle.ranks.proofs.HalfLaws.{table_ordered}
+use Rattle.ranks.proofs.CountLaws.{table_ordered}
 use Rattle.ranks.proofs.order_names.Goals as goal
 
-pub slice_bounds-order-end-2 : goal.slice_bounds-order-end-2
-slice_bounds-order-end-2 c = let t = c.args.table.now in sym (length-take-le (length t / 2) t (omega arith))
-
-pub returns : goal.returns
-returns c =
+pub returns-clause-table_after : goal.returns-clause-table_after
+returns-clause-table_after c =
     let a = c.args in
-    let put = c.order in
-    record { table_after = table_ordered a.text.now a.records.now a.table.now put.new.order _ (length a.scratch.now) put.auto.order put.ensures.order_after c.rank_half.ensures; scratch_after = put.ensures.scratch_after }
+    let halves = c.split_at_mut-order.ensures in
+    table_ordered a.text.now a.records.now (length a.table.now) (length a.scratch.now) _ _ _ _ halves.front_len (omega (arith, halves.back_len)) c.order.ensures.order_after c.ranks.ensures

@@ -1,7 +1,6 @@
 -- `record_text::put_primitive` meets its contract.
 use mathlib.Core.List.{[], ◌∷◌, ◌++◌}
 use mathlib.Core.Path.{ap, ◌∙◌}
-use Rattle.type_names.proofs.NameLaws.{own_bytes}
 use Rattle.laws.specs.Bytes.{Bytes}
 use Rattle.lines.proofs.PutsLaws.{puts_more, puts_as}
 use Rattle.lines.specs.Arguments.{argument_lines}
@@ -20,7 +19,7 @@ returns c =
     let table = a.records.now in
     let r = record_in table a.n in
     let head : Bytes → Bytes = λ kind. modifier_word text table a.n ++ spaced (kind ∷ name_in text table a.n ∷ []) in
-    let kind-is = c.part.ensures ∙ own_bytes _ (type_name c.field.result) c.type_name-kind.ensures ∙ ap type_name (c.field.ensures ∙ type_field table a.n) in
+    let kind-is = c.type_name-kind.ensures ∙ ap type_name (c.field.ensures ∙ type_field table a.n) in
     let name_is = c.field-name.ensures ∙ name_field table a.n in
     let strings_are = c.field-strings.ensures ∙ strings_field table a.n in
     let reals_are = c.field-reals.ensures ∙ reals_field table a.n in

@@ -1,9 +1,8 @@
-use Rattle.std.proofs.Common.{◌-◌, ◌≤◌}
+use Rattle.std.proofs.Common.{length}
+use Rattle.ordered.specs.Lent.{lent}
+use Rattle.ordered.specs.Lines.{lines_from}
 use Rattle.report.proofs.print_lines.Given as goal
 
--- no more lines are printed than both scenes can have keys
-abbrev pub invariant-loop-lines : goal.invariant-loop-lines
-invariant-loop-lines g l = l.lines ≤ 2048
-
-abbrev pub decreases-loop-lines : goal.decreases-loop-lines
-decreases-loop-lines g l = 2048 - l.lines
+-- each line that is handed out leaves fewer
+abbrev pub decreases-loop-next : goal.decreases-loop-next
+decreases-loop-next g l = length (lines_from (lent l.left) (lent l.right) l.from)

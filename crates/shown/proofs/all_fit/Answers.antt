@@ -1,7 +1,7 @@
 -- `shown::all_fit` meets its contract.
 use mathlib.Core.Bool.{true}
 use mathlib.Core.Path.{◌≡◌, sym, subst, ◌∙◌}
-use Prim.Native.Nat.{ℕ, ◌+◌, ◌-◌}
+use Prim.Native.Nat.{ℕ, ◌+◌}
 use native.Mathlib.Omega.{arith}
 use Rattle.graph.specs.Graph.{graph_of}
 use Rattle.shown.proofs.FitLaws.{every_more, every_none, every_not}

@@ -15,7 +15,8 @@ returns-then-not-table_fits c =
     let t = c.table_fits in
     let a = c.args in
     let u = table_unfit (graph_of a.records.now a.pairs.now) a.count a.number (length a.list.now) (sym t.ensures.value ∙ c.if-not-table_fits.true) in
-    record { value = u.0; list_after = c.clear_numbers.ensures ∙ u.1 }
+    let blank : c.fill.new.self ≡ replicate (length a.list.now) 0 = search rules in
+    record { value = u.0; list_after = blank ∙ u.1 }
 
 pub walked-total-requires : goal.walked-total-requires
 walked-total-requires c =
@@ -31,7 +32,8 @@ returns-then-list-total c =
     let fits : table_fits g a.count ≡ true = sym t.ensures.value ∙ c.if-not-table_fits.false in
     let same : length c.walked-total.new.list ≡ length a.list.now = search rules in
     let u = list_short g a.count a.number (length a.list.now) fits (all_of_them g c.requires t.ensures.marks_len_unchanged c.walked-total.ensures) (omega (arith, c.if-list-total.true, same)) in
-    record { value = u.0; list_after = c.clear_numbers-then-list-total.ensures ∙ ap (λ (k : ℕ). replicate k 0) same ∙ u.1 }
+    let blank : c.fill-then-list-total.new.self ≡ replicate (length c.walked-total.new.list) 0 = search rules in
+    record { value = u.0; list_after = blank ∙ ap (λ (k : ℕ). replicate k 0) same ∙ u.1 }
 
 pub returns : goal.returns
 returns c =

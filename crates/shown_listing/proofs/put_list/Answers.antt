@@ -1,6 +1,5 @@
 -- `shown_listing::put_list` meets its contract.
 use mathlib.Core.Path.{refl}
-use Prim.Native.Nat.{◌-◌}
 use native.Mathlib.Omega.{arith}
 use Rattle.shown_listing.proofs.JoinedLaws.{underway_all, underway_length, underway_more}
 use Rattle.shown_listing.proofs.put_list.Goals as goal

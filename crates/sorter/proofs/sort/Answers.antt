@@ -1,14 +1,15 @@
 -- `sorter::sort` meets its contract.
-use mathlib.Core.Path.{sym, ◌∙◌}
-use Rattle.sorter.proofs.AnswerLaws.{sorts_refused, sorts_same}
+use mathlib.Core.Path.{ap, ◌∙◌}
+use lib.ListN.{length}
+use Rattle.writer.proofs.AnswerLaws.{left_cleared}
+use Rattle.writer.specs.Answer.{answer_of}
+use Rattle.sorter.specs.Answer.{sorted_by}
 use Rattle.sorter.proofs.sort.Goals as goal
 
-pub returns-in-Refused : goal.returns-in-Refused
-returns-in-Refused c =
+pub returns : goal.returns
+returns c =
     let a = c.args in
-    sorts_refused a.mode a.text.now a.records.now a.reals.now a.out.now _ _ (sym c.in-Refused.is ∙ c.compare.ensures) c.clear_from.ensures
-
-pub returns-in-Same : goal.returns-in-Same
-returns-in-Same c =
-    let a = c.args in
-    sorts_same a.mode a.text.now a.records.now a.reals.now a.out.now _ c.write_sorted.ensures (sym c.in-Same.is ∙ c.compare.ensures)
+    record {
+      says = ap answer_of c.clear_unused.ensures.value ∙ c.put_checked-sorted.ensures.says;
+      output = left_cleared (sorted_by a.mode a.text.now a.records.now a.reals.now (length a.out.now)) a.out.now _ _ c.put_checked-sorted.ensures c.clear_unused.ensures.out_after;
+    }

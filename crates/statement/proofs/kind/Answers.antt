@@ -7,11 +7,12 @@ pub returns-then-same : goal.returns-then-same
 returns-then-same c = c.going.ensures ∙ kind_alias _ _ _ _ c.same.ensures c.if-same.true
 
 pub returns-then-t-eq0 : goal.returns-then-t-eq0
-returns-then-t-eq0 c = kind_unknown _ _ _ _ c.same.ensures c.if-same.false c.type_number-t.ensures c.if-t-eq0.true
+returns-then-t-eq0 c = c.refused.ensures ∙ kind_unknown _ _ _ _ c.same.ensures c.if-same.false c.type_number-t.ensures c.if-t-eq0.true
 
 pub returns-then-is_retired : goal.returns-then-is_retired
 returns-then-is_retired c =
-    kind_retired _ _ _ _ c.same.ensures c.if-same.false c.type_number-t.ensures c.if-t-eq0.false c.is_retired.ensures c.if-is_retired.true
+    c.refused-then-is_retired.ensures
+    ∙ kind_retired _ _ _ _ c.same.ensures c.if-same.false c.type_number-t.ensures c.if-t-eq0.false c.is_retired.ensures c.if-is_retired.true
 
 pub returns : goal.returns
 returns c =

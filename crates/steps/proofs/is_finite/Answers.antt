@@ -1,18 +1,15 @@
--- `steps::is_finite` meets its contract.
-use mathlib.Core.Bool.{true, false, ◌&&◌}
-use mathlib.Core.Path.{◌≡◌, refl}
-use lib.Ieee.{Float, nan, inf, fin, lt, div, neg, of_bits}
+-- `steps::is_finite` meets its contract: std's word for a finite float is that of the definitions.
+use Rattle.std.proofs.Common.{◌≡◌, refl, ◌∙◌}
+use Rattle.std.specs.Float.{float_is_finite}
+use lib.Ieee.{Float, nan, inf, fin}
 use lib.Ieee.Scale.{finite}
 use Rattle.steps.proofs.is_finite.Goals as goal
 
--- what lies between the two infinities is finite
-between : (x : Float) → (lt (inf true) x && lt x (inf false)) ≡ finite x
-unfolding lt
-between nan = refl
-between (inf true) = refl
-between (inf false) = refl
-between (fin s m e) = refl
+finite_is : (x : Float) → float_is_finite x ≡ finite x
+unfolding float_is_finite
+finite_is nan = refl
+finite_is (inf s) = refl
+finite_is (fin s m p) = refl
 
 pub returns : goal.returns
-unfolding div neg of_bits
-returns c = between c.args.x
+returns c = c.is_finite.ensures.value ∙ finite_is c.args.x

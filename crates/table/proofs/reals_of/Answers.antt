@@ -7,4 +7,4 @@ pub returns : goal.returns
 unfolding record_in
 returns c =
     let a = c.args in
-    cut_reals a.reals.now a.records.now a.n _ _ _ _ c.field-first.ensures c.field-many.ensures c.least-start.ensures c.least.ensures
+    cut_reals a.reals.now a.records.now a.n _ _ _ _ c.field-first.ensures c.field-many.ensures c.min-start.ensures c.min.ensures

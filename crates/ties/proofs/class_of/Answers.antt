@@ -1,5 +1,4 @@
 -- `ties::class_of` meets its contract.
-use Prim.Native.Nat.{◌-◌}
 use native.Mathlib.Omega.{arith}
 use Rattle.ties.proofs.ClassLaws.{first_none, class_found, not_yet, class_none}
 use borrow.Author.Rules.{rules}

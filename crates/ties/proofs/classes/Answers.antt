@@ -1,5 +1,4 @@
 -- `ties::classes` meets its contract.
-use Prim.Native.Nat.{◌-◌}
 use native.Mathlib.Omega.{arith}
 use Rattle.ties.proofs.ClassLaws.{classed_none, classed_more, classed_all}
 use Rattle.ties.proofs.classes.Goals as goal

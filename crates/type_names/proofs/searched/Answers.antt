@@ -1,32 +1,23 @@
--- `type_names::searched` meets its contract: a search from the present row finds what one from the first does.
-use mathlib.Core.Path.{◌≡◌, refl, sym, ap, ◌∙◌}
-use Prim.Native.Nat.{◌+◌, ◌-◌}
+-- `type_names::searched` meets its contract: a search from the present type finds what one from the first does.
+use Rattle.std.proofs.Common.{refl, sym, ap, ◌∙◌}
 use Rattle.laws.specs.Bytes.{same}
-use Rattle.lexer.proofs.SameLaws.{same_length}
-use Rattle.scene.specs.Types.{type_name, type_number}
-use Rattle.type_names.proofs.NameLaws.{name_length, named, number_end, number_hit, number_miss}
+use Rattle.scene.specs.Types.{type_number}
+use Rattle.type_names.proofs.NameLaws.{number_end, number_hit, number_miss}
 use Rattle.type_names.proofs.searched.Goals as goal
-use Rattle.type_names.proofs.searched.Goals.{After-same}
 
-pub search-init : goal.search-init
+pub loop-t-init : goal.loop-t-init
 unfolding type_number
-search-init c = refl
-
--- a name of another length
-pub search-preserved-then-word-len : goal.search-preserved-then-word-len
-search-preserved-then-word-len c =
-    let h = c.search-test.true in
-    number_miss _ _ h (same_length _ _ (λ e. c.if-word-len.true (e ∙ sym (name_length _ _ h)))) ∙ c.search.invariant
-
--- whether the word is the name of the next type
-is : (c : After-same) → c.same.result ≡ same c.args.word.now (type_name (c.search.t + 1))
-is c = c.same.ensures ∙ ap (same c.args.word.now) (c.part.ensures ∙ named _ _ c.search-test.true)
+loop-t-init c = refl
 
 pub returns-then-same : goal.returns-then-same
-returns-then-same c = sym (number_hit _ _ c.search-test.true (sym (is (goal.at.returns-then-same c).After-same) ∙ c.if-same.true)) ∙ c.search.invariant
+returns-then-same c =
+    let is = c.same.ensures ∙ ap (same c.args.word.now) c.type_name.ensures in
+    sym (number_hit _ _ c.loop-t.auto.t c.loop-t-test.true (sym is ∙ c.if-same.true)) ∙ c.loop-t.invariant
 
-pub search-preserved : goal.search-preserved
-search-preserved c = number_miss _ _ c.search-test.true (sym (is (goal.at.search-preserved c).After-same) ∙ c.if-same.false) ∙ c.search.invariant
+pub loop-t-preserved : goal.loop-t-preserved
+loop-t-preserved c =
+    let is = c.same.ensures ∙ ap (same c.args.word.now) c.type_name.ensures in
+    number_miss _ _ c.loop-t.auto.t c.loop-t-test.true (sym is ∙ c.if-same.false) ∙ c.loop-t.invariant
 
 pub returns : goal.returns
-returns c = sym (number_end _ _ c.search-test.false) ∙ c.search.invariant
+returns c = sym (number_end _ _ c.loop-t-test.false) ∙ c.loop-t.invariant

@@ -1,19 +1,10 @@
 -- `word_scan::line_ends` meets its contract.
-use mathlib.Core.Path.{◌∙◌}
-use Prim.Native.Nat.{◌+◌}
-use native.Mathlib.Omega.{arith}
+use Rattle.std.proofs.Common.{ℕ, cond, eqb, ap, ◌∙◌, ◌+◌, arith}
 use Rattle.word_scan.proofs.PassLaws.{line_end, line_step}
 use Rattle.word_scan.proofs.line_ends.Goals as goal
 
-pub returns-then-at-text : goal.returns-then-at-text
-returns-then-at-text c =
-    let a = c.args in
-    let at-if1 = c.if-at-text in
-    let at-ends-line = c.ends_line in
-    line_step a.text.now a.at _ at-if1.true at-ends-line.ensures
+pub returns-in-Some : goal.returns-in-Some
+returns-in-Some c = line_step c.args.text.now c.args.at _ c.in-Some.ensures.lookup.3.0 (c.ends_line.ensures ∙ ap (λ (n : ℕ). cond {A = ℕ} (eqb n 10) 1 0) (c.in-Some.ensures.lookup.3.1 0))
 
-pub returns : goal.returns
-returns c =
-    let a = c.args in
-    let at-if1 = c.if-at-text in
-    (omega arith ∙ line_end a.text.now a.at (a.at + 1) at-if1.false (omega (arith, at-if1.false)))
+pub returns-in-None : goal.returns-in-None
+returns-in-None c = omega arith ∙ line_end c.args.text.now c.args.at (c.args.at + 1) c.in-None.ensures.lookup.3 (omega (arith, c.in-None.ensures.lookup.3))

@@ -1,46 +1,28 @@
 -- `word_scan::skip` meets its contract: blanks are passed one by one, and the lines among them counted.
-use mathlib.Core.Path.{refl, sym, ◌∙◌}
-use Prim.Native.Nat.{◌+◌, ◌-◌}
-use native.Mathlib.Omega.{arith}
-use lib.ListN.{length}
+use Rattle.std.proofs.Common.{refl, sym, ◌∙◌, ◌+◌, arith, length}
 use Rattle.laws.proofs.RunLaws.{past_end, past_stop, past_step}
 use Rattle.lexer.specs.Class.{is_blank}
 use Rattle.word_scan.proofs.PassLaws.{line_end, line_most, line_step}
 use Rattle.word_scan.proofs.skip.Goals as goal
 
-pub loop-i-init : goal.loop-i-init
-loop-i-init c = (refl, omega arith)
+pub loop-place-init : goal.loop-place-init
+loop-place-init c = (refl, omega arith)
 
 pub returns-then-not-is_blank : goal.returns-then-not-is_blank
-returns-then-not-is_blank c =
-    let a = c.args in
-    let at-loop = c.loop-i in
-    let at-loop-test = c.loop-i-test in
-    let at-is-blank = c.is_blank in
-    let at-if1 = c.if-not-is_blank in
-    record { place_value = sym (past_stop is_blank a.text.now at-loop.i 0 at-loop-test.true (sym at-is-blank.ensures ∙ at-if1.true)) ∙ at-loop.invariant.0; lines_value = at-loop.invariant.1 }
+returns-then-not-is_blank c = record {
+  place_value = sym (past_stop is_blank c.args.text.now c.loop-place.place 0 c.loop-place-test.true (sym c.is_blank.ensures ∙ c.if-not-is_blank.true)) ∙ c.loop-place.invariant.0;
+  lines_value = c.loop-place.invariant.1;
+}
 
 pub overflow_add-lines : goal.overflow_add-lines
-overflow_add-lines c =
-    let a = c.args in
-    let at-loop = c.loop-i in
-    let at-loop-test = c.loop-i-test in
-    let at-ends-line = c.ends_line-lines in
-    omega (arith, at-loop.invariant.1, line_step a.text.now at-loop.i _ at-loop-test.true at-ends-line.ensures, line_most a.text.now (at-loop.i + 1))
+overflow_add-lines c = omega (arith, c.loop-place.invariant.1, line_step c.args.text.now c.loop-place.place _ c.loop-place-test.true c.ends_line-lines.ensures, line_most c.args.text.now (c.loop-place.place + 1))
 
-pub loop-i-preserved : goal.loop-i-preserved
-loop-i-preserved c =
-    let a = c.args in
-    let at-loop = c.loop-i in
-    let at-loop-test = c.loop-i-test in
-    let at-is-blank = c.is_blank in
-    let at-if1 = c.if-not-is_blank in
-    let at-ends-line = c.ends_line-lines in
-    (past_step is_blank a.text.now at-loop.i 0 at-loop-test.true (sym at-is-blank.ensures ∙ at-if1.false) ∙ at-loop.invariant.0, omega (arith, at-loop.invariant.1, line_step a.text.now at-loop.i _ at-loop-test.true at-ends-line.ensures))
+pub loop-place-preserved : goal.loop-place-preserved
+loop-place-preserved c =
+    (past_step is_blank c.args.text.now c.loop-place.place 0 c.loop-place-test.true (sym c.is_blank.ensures ∙ c.if-not-is_blank.false) ∙ c.loop-place.invariant.0, omega (arith, c.loop-place.invariant.1, line_step c.args.text.now c.loop-place.place _ c.loop-place-test.true c.ends_line-lines.ensures))
 
 pub returns : goal.returns
-returns c =
-    let a = c.args in
-    let at-loop = c.loop-i in
-    let at-loop-test = c.loop-i-test in
-    record { place_value = sym (past_end is_blank a.text.now at-loop.i at-loop-test.false) ∙ at-loop.invariant.0; lines_value = at-loop.invariant.1 ∙ line_end a.text.now at-loop.i (length a.text.now) at-loop-test.false (omega arith) }
+returns c = record {
+  place_value = sym (past_end is_blank c.args.text.now c.loop-place.place c.loop-place-test.false) ∙ c.loop-place.invariant.0;
+  lines_value = c.loop-place.invariant.1 ∙ line_end c.args.text.now c.loop-place.place (length c.args.text.now) c.loop-place-test.false (omega arith);
+}

@@ -76,7 +76,7 @@ def number_codes():
     for path in sorted(glob.glob("crates/*/src/*.rt")):
         for number, text in enumerate(open(path, encoding="utf-8"), 1):
             found = re.match(r"(?:pub )?const (\w+): (u8|u32|usize) = (\d+|OR_MORE.*);", text)
-            if found and int(re.sub(r"\D", "", "0" + found[3]) or 0) < 300 and not re.match(r"MOST|WIDTH|LINE$|PAIR$|WORDS|LIMIT", found[1]):
+            if found and int(re.sub(r"\D", "", "0" + found[3]) or 0) < 300 and not re.match(r"MOST|WIDTH|LINE$|PAIR$|WORDS|LIMIT|NUMBERS$|TYPES$", found[1]):
                 yield f"{path}:{number} const {found[1]}: {found[2]}"
 
 

@@ -129,7 +129,7 @@ fn next_key<'a>(left: Scene<'a>, right: Scene<'a>, from: Place) -> Option<Number
 }
 
 // What a key comes to, by its numbers and by whether its primitives are the same; the latter matters only where both scenes
-// have it.
+// have it. The fact is the definition's, `step_by`.
 fn step_of(at: Numbers, same: bool) -> Step
     ensures { step_told (Some result) ≡ step_by at same }
 {

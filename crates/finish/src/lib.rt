@@ -111,7 +111,7 @@ fn follow(
     link_to(table::field(records, link, KIND), link, links + 1)
 }
 
-// The walk from a primitive.
+// The walk from a primitive. No index is counted: links are followed, and `links` says how many.
 fn walk(records: &[u32], number: usize, allowance: usize) -> Result<Reached, Stopped>
     ensures { finish_answer result ≡ walk_from (view_of records.now) allowance 0 number }
 {

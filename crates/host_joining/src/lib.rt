@@ -8,6 +8,7 @@ ghost use Rattle.join_answer.specs.Answer.{answer_of, reason_of, scene_number, v
 use join_answer::Joined;
 use joining::{Scene, SceneRefusal};
 
+// The numbers are those of the calls for C and Rust.
 fn scene_number(scene: Scene) -> usize
     ensures { result ≡ scene_number scene }
 {

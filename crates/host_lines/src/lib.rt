@@ -12,7 +12,7 @@ use comparison::{Line, Place};
 use content::Scene;
 use ordered::{Cursors, OrderedScene};
 
-// The side of the left scene; any other is the right one.
+// The side of the left scene, as the calls for C and Rust have it; any other is the right one.
 const LEFT: usize = 0;
 
 // The key held.

@@ -4,9 +4,11 @@
 ghost use Rattle.std.specs.Prelude.{◌≡◌};
 ghost use Rattle.host_moving.specs.Host.{HostMoves, direction_of};
 
+use host_writing::{number_and_place, tell_answer};
 use moving::Direction;
 
 // The direction of a number: 1 is back, and any other number forth.
+#[tactic(auto, unfolding(crate::specs::Host::direction_of))]
 fn direction_of(number: u32) -> Direction
     ensures { result ≡ direction_of number }
 {
@@ -31,5 +33,5 @@ pub fn tell_moved(
     let m = host_reading::mode_of(mode);
     let d = direction_of(direction);
     let moved = mover::move_glass(m, d, text, records, reals, out);
-    host_writing::tell_answer(moved, answer)
+    tell_answer(moved.map_err(number_and_place), answer)
 }

@@ -9,16 +9,15 @@ ghost use Rattle.table_polygon.specs.InTable.{hit_in_table};
 
 use hits::LEAST;
 use host_rays::{ray_in, tell_hit};
+use scene::Reason;
 
 // A ray on a polygon, above a least distance: 0 hit, 1 miss, or the refusal's number, and the distance.
 pub fn tell_polygon_above(ray: &[f64; 6], corners: &[f64], least: f64, answer: &mut [f64; 1]) -> u32
     ensures value { result ≡ hit_kind (polygon_hit least (ray_in ray.now) corners.now) }
     ensures answer_after { answer.new ≡ hit_values (polygon_hit least (ray_in ray.now) corners.now) }
 {
-    tell_hit(
-        polygon::polygon_hit_above(ray_in(ray), corners, least),
-        answer,
-    )
+    let hit = polygon::polygon_hit_above(ray_in(ray), corners, least);
+    tell_hit(hit.map_err(Reason::number), answer)
 }
 
 #[tactic(auto, using(hits::proofs::LeastLaws::default_bits))]
@@ -44,7 +43,7 @@ pub fn tell_in_table_above(
 {
     let r = ray_in(ray);
     let hit = table_polygon::hit_in_table_above(r, records, count, number, reals, least);
-    tell_hit(hit, answer)
+    tell_hit(hit.map_err(Reason::number), answer)
 }
 
 #[tactic(auto, using(hits::proofs::LeastLaws::default_bits))]

@@ -4,8 +4,6 @@
 ghost use Rattle.std.specs.Prelude.{◌≡◌};
 ghost use Rattle.precedence.specs.Answer.{kind_of, order_of, values_of};
 
-use precedence::Order;
-
 // 0 for free, 1 for held, or the refusal's number; and the entry that a chain goes to first, with the one whose name binds.
 pub fn tell_order(
     text: &[u8],
@@ -19,17 +17,17 @@ pub fn tell_order(
     ensures answer_after { answer.new ≡ values_of (order_of text.now records.now count first second) }
 {
     match precedence::mattered(text, records, count, first, second) {
-        Order::Free => {
+        Ok(None) => {
             *answer = [0, 0];
             0
         }
-        Order::Held(by, named) => {
-            *answer = [by, named];
+        Ok(Some(held)) => {
+            *answer = [held.by, held.named];
             1
         }
-        Order::Refused(reason) => {
+        Err(reason) => {
             *answer = [0, 0];
-            reason
+            reason.number()
         }
     }
 }

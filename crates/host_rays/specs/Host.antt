@@ -1,5 +1,5 @@
 -- What a host program hands in and is told of rays and reflection: small arrays of doubles, and a number for the kind of answer.
-use Rattle.std.specs.Prelude.{List, [], ◌∷◌, ℕ, ◌+◌, Float, get_or}
+use Rattle.std.specs.Prelude.{List, [], ◌∷◌, ℕ, ◌+◌, Float, Option, Some, None, Result, Ok, Err, get_or}
 use Rattle.std.specs.Float.{nan}
 use Rattle.fresnel.specs.Outcome as fresnel
 use Rattle.fresnel.specs.Outcome.{coefficients, total}
@@ -25,6 +25,12 @@ sphere_in a = record { centre = vector_at a 0; radius = get_or a 3 nan }
 
 unfoldable pub ring_in : List Float → Ring
 ring_in a = record { centre = vector_at a 0; normal = vector_at a 3; inner = get_or a 6 nan; outer = get_or a 7 nan }
+
+-- a hit routine's answer whose refusal is its number, whatever it is
+abbrev pub numbered : Result (Option Float) ℕ → hits.Outcome
+numbered (Ok (Some t)) = hit t
+numbered (Ok None) = miss
+numbered (Err n) = hits.refused n
 
 -- 0 for a hit, 1 for a miss, or the refusal's number
 abbrev pub hit_kind : hits.Outcome → ℕ

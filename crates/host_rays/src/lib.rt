@@ -5,10 +5,9 @@
 ghost use Rattle.std.specs.Prelude.{◌≡◌};
 ghost use Rattle.fresnel.specs.Fresnel.{fresnel_of};
 ghost use Rattle.hits.specs.Ahead.{default_least};
-ghost use Rattle.hits.specs.Outcome.{outcome_of};
 ghost use Rattle.hits.specs.Ring.{ring_hit};
 ghost use Rattle.hits.specs.Sphere.{sphere_hit};
-ghost use Rattle.host_rays.specs.Host.{hit_kind, hit_values, ray_in, reflection_kind, reflection_values, ring_in, sphere_in};
+ghost use Rattle.host_rays.specs.Host.{hit_kind, hit_values, numbered, ray_in, reflection_kind, reflection_values, ring_in, sphere_in};
 
 use fresnel::Reflection;
 use hits::{LEAST, Ray, Ring, Sphere};
@@ -53,10 +52,10 @@ fn ring_in(a: &[f64; 8]) -> Ring
     }
 }
 
-// Tells a hit: its kind, and the distance.
-pub fn tell_hit(hit: Result<Option<f64>, Reason>, answer: &mut [f64; 1]) -> u32
-    ensures value { result ≡ hit_kind (outcome_of hit) }
-    ensures answer_after { answer.new ≡ hit_values (outcome_of hit) }
+// Tells a hit: its kind, and the distance. A refusal comes as its number.
+pub fn tell_hit(hit: Result<Option<f64>, u32>, answer: &mut [f64; 1]) -> u32
+    ensures value { result ≡ hit_kind (numbered hit) }
+    ensures answer_after { answer.new ≡ hit_values (numbered hit) }
 {
     match hit {
         Ok(Some(t)) => {
@@ -67,9 +66,9 @@ pub fn tell_hit(hit: Result<Option<f64>, Reason>, answer: &mut [f64; 1]) -> u32
             *answer = [0.0];
             1
         }
-        Err(reason) => {
+        Err(number) => {
             *answer = [0.0];
-            reason.number()
+            number
         }
     }
 }
@@ -84,10 +83,8 @@ pub fn tell_sphere_above(
     ensures value { result ≡ hit_kind (sphere_hit least (ray_in ray.now) (sphere_in sphere.now)) }
     ensures answer_after { answer.new ≡ hit_values (sphere_hit least (ray_in ray.now) (sphere_in sphere.now)) }
 {
-    tell_hit(
-        hits::sphere_hit_above(ray_in(ray), sphere_in(sphere), least),
-        answer,
-    )
+    let hit = hits::sphere_hit_above(ray_in(ray), sphere_in(sphere), least);
+    tell_hit(hit.map_err(Reason::number), answer)
 }
 
 #[tactic(auto, using(hits::proofs::LeastLaws::default_bits))]
@@ -103,10 +100,8 @@ pub fn tell_ring_above(ray: &[f64; 6], ring: &[f64; 8], least: f64, answer: &mut
     ensures value { result ≡ hit_kind (ring_hit least (ray_in ray.now) (ring_in ring.now)) }
     ensures answer_after { answer.new ≡ hit_values (ring_hit least (ray_in ray.now) (ring_in ring.now)) }
 {
-    tell_hit(
-        hits::ring_hit_above(ray_in(ray), ring_in(ring), least),
-        answer,
-    )
+    let hit = hits::ring_hit_above(ray_in(ray), ring_in(ring), least);
+    tell_hit(hit.map_err(Reason::number), answer)
 }
 
 #[tactic(auto, using(hits::proofs::LeastLaws::default_bits))]

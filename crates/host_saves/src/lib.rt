@@ -7,6 +7,7 @@ ghost use Rattle.host_saves.specs.Host.{HostReadsBoth};
 
 use pair::{BothCounts, Side};
 
+// The number is that of the calls for C and Rust.
 fn side_number(side: Side) -> usize
     ensures { result ≡ side_number side }
 {

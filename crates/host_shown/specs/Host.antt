@@ -1,8 +1,7 @@
 -- What a host program is told of the materials that a primitive may show.
 use Rattle.std.specs.Prelude.{List, ℕ}
 use Rattle.shown.specs.List.{shown_answer}
-use Rattle.shown.specs.declared.Shown.{Shown}
-use Rattle.shown.specs.declared.Shown.TheVariants.{Listed, Refused}
+use Rattle.shown.specs.Shown.{Shown, Listed, Refused}
 
 abbrev pub reason_of : Shown → ℕ
 reason_of (Listed n) = 0

@@ -6,8 +6,6 @@ ghost use Rattle.std.specs.Prelude.{[], ◌∷◌, ◌≡◌, length};
 ghost use Rattle.host_shown.specs.Host.{shown_many, shown_reason};
 ghost use Rattle.shown.specs.List.{shown_list};
 
-use shown::Shown;
-
 // Lists the materials that a primitive may show: the refusal's number or 0, and how many there are.
 pub fn tell_shown(
     records: &[u32],
@@ -22,13 +20,13 @@ pub fn tell_shown(
     ensures list_after { list.new ≡ shown_list records.now pairs.now count number (length list.old) }
 {
     match shown::list_shown(records, pairs, count, number, list) {
-        Shown::Listed(many) => {
+        Ok(many) => {
             *answer = [many];
             0
         }
-        Shown::Refused(reason) => {
+        Err(reason) => {
             *answer = [0];
-            reason
+            reason.number()
         }
     }
 }

@@ -3,6 +3,8 @@
 
 ghost use Rattle.host_sorting.specs.Host.{HostSorts};
 
+use host_writing::{number_and_place, tell_answer};
+
 // Writes a scene sorted: the reason or 0, and the place of a refusal and the length of the text.
 pub fn tell_sorted(
     mode: u32,
@@ -16,5 +18,5 @@ pub fn tell_sorted(
 {
     let m = host_reading::mode_of(mode);
     let sorted = sorter::sort(m, text, records, reals, out);
-    host_writing::tell_answer(sorted, answer)
+    tell_answer(sorted.map_err(number_and_place), answer)
 }

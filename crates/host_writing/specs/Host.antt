@@ -1,9 +1,14 @@
 -- What a host program is told of a scene written out: a number for the kind of answer, and the answer's values in a small array.
-use Rattle.std.specs.Prelude.{List, ◌≡◌, ℕ, Float, length}
+use Rattle.std.specs.Prelude.{Result, Ok, Err, List, ◌≡◌, ℕ, Float, length}
 use Rattle.host_reading.specs.Host.{mode_of}
 use Rattle.laws.specs.Bytes.{Bytes}
 use Rattle.writer.specs.Answer as written
 use Rattle.writer.specs.Answer.{Outcome, answered, output, tidied}
+
+-- a writing call's answer whose refusal is a number, whatever it is, and a place
+abbrev pub numbered : Result ℕ (ℕ × ℕ) → written.Answer
+numbered (Ok n) = written.Written n
+numbered (Err w) = written.Refused w.0 w.1
 
 -- what a writing call comes to, in an output of so many bytes: the reason, or 0; place and length; and the output
 pub record HostTold (o : Outcome) (room : ℕ) (r : ℕ) (values : List ℕ) (out' : Bytes) : Type 0 where

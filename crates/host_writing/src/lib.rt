@@ -2,25 +2,33 @@
 #![tactic(auto)]
 
 ghost use Rattle.std.specs.Prelude.{◌≡◌};
-ghost use Rattle.writer.specs.Answer.{answer_of, reason_of, values_of};
-ghost use Rattle.host_writing.specs.Host.{HostTold, HostWrites};
+ghost use Rattle.host_writing.specs.Host.{HostTold, HostWrites, numbered};
+ghost use Rattle.scene.specs.Reason.{reason_number};
+ghost use Rattle.writer.specs.Answer.{reason_of, values_of};
 
 use scene::Refusal;
 
+// A refusal as its number and its place.
+pub fn number_and_place(refusal: Refusal) -> (u32, usize)
+    ensures { result ≡ (reason_number refusal.reason, refusal.place) }
+{
+    (refusal.reason.number(), refusal.place)
+}
+
 // The number and the array are those of the calls for C and Rust (`HostWrites`).
 // The answer of a writing call: the reason or 0, and the place of a refusal and the length of the text.
-pub fn tell_answer(written: Result<usize, Refusal>, answer: &mut [usize; 2]) -> u32
-    ensures value { result ≡ reason_of (answer_of written) }
-    ensures answer_after { answer.new ≡ values_of (answer_of written) }
+pub fn tell_answer(written: Result<usize, (u32, usize)>, answer: &mut [usize; 2]) -> u32
+    ensures value { result ≡ reason_of (numbered written) }
+    ensures answer_after { answer.new ≡ values_of (numbered written) }
 {
     match written {
         Ok(len) => {
             *answer = [0, len];
             0
         }
-        Err(refusal) => {
-            *answer = [refusal.place, 0];
-            refusal.reason.number()
+        Err((number, place)) => {
+            *answer = [place, 0];
+            number
         }
     }
 }
@@ -38,5 +46,5 @@ pub fn tell_written(
 {
     let m = host_reading::mode_of(mode);
     let written = writer::write(m, text, records, reals, out);
-    tell_answer(written, answer)
+    tell_answer(written.map_err(number_and_place), answer)
 }

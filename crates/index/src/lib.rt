@@ -147,6 +147,7 @@ pub fn search(text: &[u8], records: &[u32], index: &[u32], count: usize, word: &
 }
 
 // Writes a number where a search ended; a search without an index ended behind the last entry.
+// The bounds are tested by hand: what `get_mut` leaves of the index tells a proof its length only.
 pub fn put(index: &mut [u32], entry: usize, number: u32)
     ensures { index.new ≡ set index.old entry number }
 {

@@ -8,19 +8,21 @@ use borrow.Author.Tests.{le-leb, lt-leb, ltb-false, ltb-true}
 use lib.Dec.{ltb}
 use lib.Ieee.{Float}
 use lib.ListN.{length, replicate, take}
-use Rattle.join_answer.specs.Answer.{Joins, reading_of, text_of}
+use Rattle.std.specs.Prelude.{Result, Err}
+use Rattle.join_answer.specs.Answer.{Answer, Joins, answer_of, reading_of, text_of}
 use Rattle.join_answer.specs.Settled.{Settles}
-use Rattle.join_answer.specs.Answer.{Answer}
 use Rattle.join_answer.specs.Answer as call
+use Rattle.join_answer.specs.declared.Joined.{Joined as Counts}
 use Rattle.joining.specs.Outcome.{Outcome, joined, refused}
-use Rattle.joining.specs.declared.Scene.{Scene}
 use Rattle.joining.specs.declared.Scene.TheVariants as scene
+use Rattle.joining.specs.declared.SceneRefusal.{SceneRefusal}
 use Rattle.laws.specs.Bytes.{Bytes}
 use Rattle.lines.proofs.PutsLaws.{puts_length}
 use Rattle.lines.specs.Puts.{Puts}
 use Rattle.lines.specs.declared.Cursor.{Cursor}
 use Rattle.scene.proofs.ImageLaws.{zero_reals, zero_records}
 use Rattle.scene.specs.HouseRules.{zero_real}
+use Rattle.scene.specs.Reason.{reason_number}
 use Rattle.scene.specs.Record.{filled, real_image, record_image}
 use Rattle.writer.proofs.AnswerLaws.{end_is, front, rest_cleared}
 
@@ -41,9 +43,18 @@ module _ {o : Outcome} {records : List ℕ} {reals : List Float} {out : Bytes} {
 
 -- ---- a refusal
 
-module _ (records : List ℕ) (reals : List Float) (out : Bytes) where
-  pub refuses : (t : Scene) (n p : ℕ) {records' : List ℕ} {reals' : List Float} {out' : Bytes} → records' ≡ replicate (length records) 0 → reals' ≡ replicate (length reals) zero_real → out' ≡ filled 0 (length out) [] → Joins (refused t n p) records reals out (call.Refused t n p) records' reals' out'
-  refuses t n p a b c = record { says = refl; table = a ∙ zero_records [] (length records) n p; doubles = b ∙ zero_reals (length reals) n p; output = c }
+-- what `refuse` answers and leaves is the refusal of a whole call
+module _ {records : List ℕ} {reals : List Float} {out : Bytes} {records' : List ℕ} {reals' : List Float} {out' : Bytes} where
+  pub refuses : {r : Result Counts SceneRefusal} (w : SceneRefusal) → r ≡ Err w → records' ≡ replicate (length records) 0 → reals' ≡ replicate (length reals) zero_real → out' ≡ replicate (length out) 0 → Joins (refused w.scene (reason_number w.refusal.reason) w.refusal.place) records reals out (answer_of r) records' reals' out'
+  refuses w e a b c =
+      let n = reason_number w.refusal.reason in
+      let p = w.refusal.place in
+      record {
+        says = ap (λ (z : Result Counts SceneRefusal). answer_of z) e;
+        table = a ∙ zero_records [] (length records) n p;
+        doubles = b ∙ zero_reals (length reals) n p;
+        output = c ∙ ap (λ (k : ℕ). replicate k 0) (sym (sub-zero (length out)));
+      }
 
 -- ---- an accepted text put into the output
 

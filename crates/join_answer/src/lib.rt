@@ -1,10 +1,10 @@
 // What a joining call answers, and leaves in all that is lent: a refusal, or an accepted text.
 #![tactic(auto)]
 
-ghost use Rattle.join_answer.specs.Answer.{Joins, answer_of};
+ghost use Rattle.std.specs.Prelude.{Err, ◌≡◌, length, replicate};
+ghost use Rattle.join_answer.specs.Answer.{answer_of};
 ghost use Rattle.join_answer.specs.Settled.{Settles};
-ghost use Rattle.joining.specs.Outcome.{refused};
-ghost use Rattle.scene.specs.Reason.{reason_number};
+ghost use Rattle.scene.specs.HouseRules.{zero_real};
 
 use joining::{Scene, SceneRefusal};
 use lines::Cursor;
@@ -18,17 +18,20 @@ pub struct Joined {
     pub reals: usize,
 }
 
-// A refusal: all that is lent is zeroed.
-pub fn refuse(
+// A refusal, whatever its kind: all that is lent is zeroed.
+pub fn refuse<E>(
     records: &mut [u32],
     reals: &mut [f64],
     out: &mut [u8],
-    why: SceneRefusal,
-) -> Result<Joined, SceneRefusal>
-    ensures { Joins (refused why.scene (reason_number why.refusal.reason) why.refusal.place) records.old reals.old out.old (answer_of result) records.new reals.new out.new }
+    why: E,
+) -> Result<Joined, E>
+    ensures value { result ≡ Err why }
+    ensures records_after { records.new ≡ replicate (length records.old) 0 }
+    ensures reals_after { reals.new ≡ replicate (length reals.old) zero_real }
+    ensures out_after { out.new ≡ replicate (length out.old) 0 }
 {
     table::clear(records, reals);
-    writer::clear_from(out, 0);
+    out.fill(0);
     Err(why)
 }
 

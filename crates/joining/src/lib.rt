@@ -4,6 +4,7 @@
 use scene::Refusal;
 
 // Whose definition of a name is taken, or that both hands changed it differently.
+// A clash is a third choice and no error: the definition `chosen` has it so.
 #[derive(Clone, Copy)]
 pub enum Choice {
     Left,

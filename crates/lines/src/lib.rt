@@ -9,6 +9,7 @@ ghost use Rattle.lines.specs.Arguments.{argument_lines};
 ghost use Rattle.lines.specs.Puts.{Puts};
 
 // Where the next byte goes, and whether some byte did not fit.
+// The output is no part of it: the definition `Puts` has the two apart, and callers clear what is left of the output.
 #[derive(Clone, Copy, PartialEq, Eq, Debug)]
 pub struct Cursor {
     pub at: usize,

@@ -27,7 +27,7 @@ fn modifier(records: &[u32], n: usize) -> usize
     table::field(records, n, MODIFIER) as usize
 }
 
-// Whether the walk goes on from a primitive that it reached.
+// Whether the walk goes on from a primitive that it reached. A flag and no closure: the definition `goes_from` has it.
 fn passes(records: &[u32], n: usize, through: bool) -> bool
     ensures { result ≡ goes_from through (field_in records.now n 0) }
 {

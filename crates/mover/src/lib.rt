@@ -40,7 +40,8 @@ fn moved_reals(direction: Direction, text: &[u8], records: &[u32], count: usize)
     total
 }
 
-// Why a moved text is refused: what a reading of it would give, then an output that is too small.
+// Why a moved text is refused: what a reading of it would give, then an output that is too small. That the text is too long is one
+// of the facts that the definition `moved_refusal` goes by.
 fn check_moved(
     long: bool,
     reals: usize,

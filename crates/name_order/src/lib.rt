@@ -54,6 +54,7 @@ fn merge(text: &[u8], records: &[u32], left: &[u32], right: &[u32], out: &mut [u
     requires { length out.old ≡ length left.now + length right.now }
     ensures { out.new ≡ merge (earlier text.now records.now) left.now right.now }
 {
+    // Two cursors by hand: each turn moves one of them, by which run the next entry comes from.
     let mut i = 0;
     let mut j = 0;
     for entry in out.iter_mut() {
@@ -72,6 +73,7 @@ fn merge_runs(text: &[u8], records: &[u32], from: &[u32], to: &mut [u32], width:
     requires { Round (earlier text.now records.now) from.now (length to.old) width }
     ensures { Runs (earlier text.now records.now) (width + width) to.new }
 {
+    // Stepped by hand: a turn moves on by two runs, not by one index.
     let mut at = 0;
     while at < from.len() {
         let middle = (at + width).min(from.len());
@@ -93,6 +95,7 @@ fn sort(text: &[u8], records: &[u32], order: &mut [u32], scratch: &mut [u32])
     ensures { order.new ≡ sorted (earlier text.now records.now) (length order.old) }
 {
     number(order);
+    // No index is counted: the width of the runs grows fourfold with each turn.
     let mut width = 1;
     while width < order.len() {
         merge_runs(text, records, order, scratch, width);

@@ -3,6 +3,7 @@
 #![tactic(auto)]
 
 use output::ErrorStream;
+use scene::Reason;
 use scene_texts::{Program, Scene};
 use std::io;
 use std::rt::{Env, Runtime};
@@ -17,7 +18,9 @@ const NAME: usize = 40960;
 
 fn print_pair(rt: &impl Print, scene: &Scene<'_>, a: usize, b: usize) -> io::Result<()> {
     let mut line = [0u8; PAIR];
-    let order = precedence::mattered(scene.text, scene.records, scene.primitives, a, b);
+    let order = precedence::mattered(scene.text, scene.records, scene.primitives, a, b).map_err(
+        Reason::number,
+    );
     let end = order_listing::pair_line(
         &mut line,
         scene.text,

@@ -1,11 +1,10 @@
 -- The line's parts, one law for each answer.
 use mathlib.Core.List.{List, ◌++◌}
 use mathlib.Core.Path.{◌≡◌, refl, ap, sym}
-use Prim.Native.Nat.{ℕ, ◌+◌}
+use Prim.Native.Nat.{ℕ}
 use Rattle.fields.specs.Fields.{field, text_field}
 use Rattle.laws.specs.Bytes.{Bytes, bytes}
-use Rattle.precedence.specs.declared.Order.{Order}
-use Rattle.precedence.specs.declared.Order.TheVariants.{Free, Held, Refused}
+use Rattle.precedence.specs.Order.{Order, Free, Held, Refused}
 use Rattle.scene.specs.Record.{name_in}
 use Rattle.order_listing.specs.OrderLine.{order_text, pair_line}
 

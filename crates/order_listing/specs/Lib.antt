@@ -1,2 +1,3 @@
 -- To be believed.
 pub mod OrderLine
+pub mod Told

@@ -2,8 +2,7 @@
 use Rattle.std.specs.Prelude.{List, ◌++◌, ℕ}
 use Rattle.fields.specs.Fields.{field, text_field}
 use Rattle.laws.specs.Bytes.{Bytes, bytes}
-use Rattle.precedence.specs.declared.Order.{Order}
-use Rattle.precedence.specs.declared.Order.TheVariants.{Free, Held, Refused}
+use Rattle.precedence.specs.Order.{Order, Free, Held, Refused}
 use Rattle.scene.specs.Record.{name_in}
 
 -- ---- `first=3 second=5 order=held by=5 name=deskfront`

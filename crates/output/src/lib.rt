@@ -50,6 +50,7 @@ pub fn noticed(rt: &impl Eprint, written: io::Result<()>) -> bool
     }
 }
 
+// A `bool` as from `noticed`: an error has been said on standard error, and nothing of it is left for the caller.
 pub fn print(rt: &(impl Print + Eprint), text: &[u8]) -> bool {
     noticed(rt, rt.write_all(text))
 }

@@ -25,6 +25,7 @@ pub fn is_equal(m: usize) -> bool
     m % 2 == 1
 }
 
+// Three facts about a name, as the definition `chosen` has them.
 fn chosen(agree: bool, left_kept: bool, right_kept: bool) -> Choice
     ensures { result ≡ chosen agree left_kept right_kept }
 {

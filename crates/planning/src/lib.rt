@@ -127,6 +127,7 @@ fn plan_rows(
     order_rows(base, left, right, order)
 }
 
+// No `From`: neither type is of this crate.
 fn side_scene(side: Side) -> Scene
     ensures { result ≡ side_scene side }
 {

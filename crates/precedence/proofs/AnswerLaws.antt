@@ -4,7 +4,6 @@ use mathlib.Core.List.{List}
 use mathlib.Core.Logic.{◌⊎◌, inl, inr}
 use mathlib.Core.Path.{◌≡◌, refl, ap, sym, ◌∙◌}
 use Prim.Native.Nat.{ℕ, zero, suc, ◌+◌, ◌*◌, ◌≤◌, ◌<◌, min, max}
-use native.Mathlib.Nat.{min-eq_left, min-eq_right, max-eq_left, max-eq_right}
 use native.Mathlib.Numerals.{add-one}
 use native.Mathlib.Omega.{arith}
 use borrow.Author.Tests.{eq-eqb, eqb-false, eqb-true, leb-true, ne_eqb}
@@ -16,8 +15,7 @@ use Rattle.laws.proofs.NatLaws.{le_or_lt}
 use Rattle.laws.specs.Bytes.{Bytes}
 use Rattle.precedence.specs.Answer.{all_fit, between, binder, by_link, order_of, refusal_of, row_fits}
 use Rattle.precedence.specs.Code.{Ordered}
-use Rattle.precedence.specs.declared.Order.{Order}
-use Rattle.precedence.specs.declared.Order.TheVariants.{Free, Held, Refused}
+use Rattle.precedence.specs.Order.{Order, Free, Held, Refused}
 use Rattle.scene.specs.Record.{field_in, width}
 use Rattle.table.proofs.QuestionLaws.{length_field, modifier_field, name_field, target_field}
 use Rattle.table.specs.Question.{number_refusal}

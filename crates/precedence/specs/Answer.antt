@@ -2,8 +2,7 @@
 use Rattle.std.specs.Prelude.{Bool, true, ◌&&◌, cond, List, [], ◌∷◌, ℕ, zero, suc, ◌+◌, min, max, eqb, leb, ltb, length}
 use Rattle.holding.specs.Shortest.{first_link}
 use Rattle.laws.specs.Bytes.{Bytes}
-use Rattle.precedence.specs.declared.Order.{Order}
-use Rattle.precedence.specs.declared.Order.TheVariants.{Free, Held, Refused}
+use Rattle.precedence.specs.Order.{Order, Free, Held, Refused}
 use Rattle.scene.specs.Record.{record_in}
 use Rattle.table.specs.Question.{number_refusal}
 use Rattle.ties.specs.Ties.{bound_rows, classes_to, gives_to}

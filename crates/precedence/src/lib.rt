@@ -5,6 +5,7 @@ ghost use Rattle.std.specs.Prelude.{◌≡◌, ◌+◌, ◌<◌, drop, get_or, l
 ghost use Rattle.holding.specs.Shortest.{first_link, first_on, nearest};
 ghost use Rattle.ties.specs.Ties.{bound_rows};
 ghost use Rattle.precedence.specs.Answer.{all_fit, between, binder, by_link, order_of, refusal_of, row_fits};
+ghost use Rattle.precedence.specs.Answered.{held_of, order_answer};
 ghost use Rattle.precedence.specs.Code.{Filled, Ordered};
 ghost use Rattle.table.specs.Question.{refusal_number};
 
@@ -15,13 +16,11 @@ use table::MOST_RECORDS;
 // has, itself counted, and 0 for none.
 const PLACES: usize = MOST_RECORDS + 1;
 
-// Nothing holds their order; or a chain of entries does, with the entry that it goes to first and the one whose name binds; or why
-// they cannot be asked about.
-#[derive(Clone, Copy)]
-pub enum Order {
-    Free,
-    Held(usize, usize),
-    Refused(u32),
+// A chain of entries that holds an order: the entry that it goes to first, and the one whose name binds.
+#[derive(Clone, Copy, PartialEq, Eq, Debug)]
+pub struct Held {
+    pub by: usize,
+    pub named: usize,
 }
 
 // Whether a record's links lead to records above it, and its name stands in the text.
@@ -134,37 +133,46 @@ fn binder(records: &[u32], classes: &[usize], n: usize, k: usize) -> usize
     k
 }
 
-// Whether the first of two entries holds the last.
-fn linked(records: &[u32], classes: &[usize], first: usize, last: usize) -> Order
+// What holds the last of two entries to the first, if anything does.
+fn linked(records: &[u32], classes: &[usize], first: usize, last: usize) -> Option<Held>
     requires { Ordered 1024 first last }
-    ensures { result ≡ by_link records.now classes.now first (first_link (bound_rows records.now classes.now) first last) }
+    ensures { held_of result ≡ by_link records.now classes.now first (first_link (bound_rows records.now classes.now) first last) }
 {
     let mut lengths = [0usize; PLACES];
     let end = last + 1;
     fill(records, classes, &mut lengths[..end], first);
-    let k = first_link(records, classes, &lengths[..end], first);
-    if k == 0 {
-        return Order::Free;
+    let by = first_link(records, classes, &lengths[..end], first);
+    if by == 0 {
+        return None;
     }
-    Order::Held(k, binder(records, classes, first, k))
+    Some(Held {
+        by,
+        named: binder(records, classes, first, by),
+    })
 }
 
 // The same, with the classes of as many records as there are.
-fn between(text: &[u8], records: &[u32], count: usize, first: usize, last: usize) -> Order
+fn between(text: &[u8], records: &[u32], count: usize, first: usize, last: usize) -> Option<Held>
     requires { Ordered count first last }
-    ensures { result ≡ between text.now records.now count first last }
+    ensures { held_of result ≡ between text.now records.now count first last }
 {
     let mut classes = [0usize; MOST_RECORDS];
     ties::classes(text, records, &mut classes[..count]);
     linked(records, &classes[..count], first, last)
 }
 
-// Whether the order of two entries mattered, whichever is named first.
-pub fn mattered(text: &[u8], records: &[u32], count: usize, first: usize, second: usize) -> Order
-    ensures { result ≡ order_of text.now records.now count first second }
+// Whether the order of two entries mattered, whichever is named first: what holds it, if anything does.
+pub fn mattered(
+    text: &[u8],
+    records: &[u32],
+    count: usize,
+    first: usize,
+    second: usize,
+) -> Result<Option<Held>, Reason>
+    ensures { order_answer result ≡ order_of text.now records.now count first second }
 {
-    match refusal(text, records, count, first, second) {
-        Ok(()) => between(text, records, count, first.min(second), first.max(second)),
-        Err(reason) => Order::Refused(reason.number()),
-    }
+    refusal(text, records, count, first, second)?;
+    let upper = first.min(second);
+    let lower = first.max(second);
+    Ok(between(text, records, count, upper, lower))
 }

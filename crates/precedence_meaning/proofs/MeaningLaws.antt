@@ -15,7 +15,7 @@ use Rattle.holding.specs.Shortest.{first_link}
 use Rattle.laws.proofs.BoolLaws.{and_left, and_right}
 use Rattle.laws.specs.Bytes.{Bytes, same}
 use Rattle.precedence.specs.Answer.{all_fit, between, binder, by_link, order_of, refusal_of, row_fits}
-use Rattle.precedence.specs.declared.Order.TheVariants.{Free, Held}
+use Rattle.precedence.specs.Order.{Free, Held}
 use Rattle.precedence_meaning.specs.Meaning.{Binds, GivesTo, Means, MeaningLaw, TurnedLaw}
 use Rattle.rearrangement.specs.Held.{both, bound, bound_in}
 use Rattle.scene.proofs.PlaceLaws.{AllRead}

@@ -4,7 +4,7 @@ use Rattle.std.proofs.Math.Option.{some}
 use Rattle.holding.specs.Shortest.{first_link}
 use Rattle.laws.specs.Bytes.{Bytes}
 use Rattle.precedence.specs.Answer.{order_of}
-use Rattle.precedence.specs.declared.Order.TheVariants.{Free, Held}
+use Rattle.precedence.specs.Order.{Free, Held}
 use Rattle.rearrangement.specs.Held.{bound_in}
 use Rattle.scene.specs.Block.{given, referred, stands}
 use Rattle.scene.specs.Properties.{Named, numbered}

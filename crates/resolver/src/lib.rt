@@ -9,6 +9,7 @@ use kinds::MIXFUNC;
 use table::{KIND, STRING};
 
 // No mixture among the records, or each side known, or the place of the first that is not.
+// An enum of its own, and a flag in `Side`: as a `Result` and an `Option` they were tried, and the reading by an index missed its bar of speed.
 #[derive(Clone, Copy)]
 pub enum Resolved {
     Plain,
@@ -100,6 +101,7 @@ pub fn resolve(
 ) -> Resolved
     ensures { Resolves text.now records.now index.now pairs.old count result pairs.new }
 {
+    // Counted by hand for the same reason.
     let mut end = Resolved::Plain;
     let mut n = 0;
     while n < count {

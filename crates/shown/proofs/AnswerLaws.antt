@@ -15,7 +15,7 @@ use Rattle.shown.proofs.FitLaws.{fits_within}
 use Rattle.shown.proofs.ListLaws.{padded_filled}
 use Rattle.shown.specs.Code.{Holds, Numbered, Walkable}
 use Rattle.shown.specs.List.{every, primitive_fits, fit_answer, fit_list, fit_refusal, pair_refusal, shown_answer, shown_list, table_fits}
-use Rattle.shown.specs.declared.Shown.TheVariants.{Listed, Refused}
+use Rattle.shown.specs.Shown.{Listed, Refused}
 
 module _ (g : Graph) (count n room : ℕ) where
   pub table_unfit : table_fits g count ≡ false → (Refused 18 ≡ fit_answer g count n room) × (replicate room 0 ≡ fit_list g count n room)

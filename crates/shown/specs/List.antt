@@ -4,8 +4,7 @@ use Rattle.graph.specs.Answers.{lowest_loop, shown_in}
 use Rattle.graph.specs.Graph.{Graph, graph_of, mixture_type}
 use Rattle.scene.specs.Record.{filled}
 use Rattle.scene.specs.Types.{is_surface, is_type}
-use Rattle.shown.specs.declared.Shown.{Shown}
-use Rattle.shown.specs.declared.Shown.TheVariants.{Listed, Refused}
+use Rattle.shown.specs.Shown.{Shown, Listed, Refused}
 use Rattle.table.specs.Question.{number_refusal}
 use Rattle.table.specs.View.{View}
 

@@ -4,6 +4,7 @@
 ghost use Rattle.std.specs.Prelude.{◌≡◌, ◌+◌, ◌-◌, ◌≤◌, ◌<◌, length, set};
 ghost use Rattle.graph.specs.Answers.{shown_in, those};
 ghost use Rattle.graph.specs.Graph.{graph_of};
+ghost use Rattle.shown.specs.Answer.{shown_of};
 ghost use Rattle.shown.specs.Code.{Adds, Holds, Numbered, Walkable, marked_material};
 ghost use Rattle.shown.specs.List.{every, fit_answer, fit_list, link_fits, pair_refusal, primitive_fits, shown_answer, shown_list, side_fits, table_fits};
 ghost use Rattle.table.specs.Question.{refusal_number};
@@ -12,13 +13,6 @@ ghost use Rattle.table.specs.View.{view_of};
 use kinds::MIXFUNC;
 use scene::Reason;
 use table::{KIND, MODIFIER, MOST_RECORDS};
-
-// How many materials are listed, or a refusal's number.
-#[derive(Clone, Copy)]
-pub enum Shown {
-    Listed(usize),
-    Refused(u32),
-}
 
 // ---- whether a table can be walked
 
@@ -100,6 +94,7 @@ fn pair_refusal(records: &[u32], pairs: &[u32], count: usize, number: usize) -> 
 
 // ---- the list
 
+// The bounds are tested by hand: what `get_mut` leaves of the list tells a proof its length only.
 fn put(list: &mut [u32], at: usize, n: usize)
     requires { n ≤ 1024 }
     ensures { list.new ≡ set list.old at n }
@@ -149,7 +144,7 @@ fn walked(records: &[u32], pairs: &[u32], marks: &mut [u32], n: usize, list: &mu
     materials(records, marks, list)
 }
 
-// The list call on a table that has so many primitives.
+// The list call on a table that has so many primitives: how many materials are listed.
 fn list_of(
     records: &[u32],
     pairs: &[u32],
@@ -157,32 +152,32 @@ fn list_of(
     count: usize,
     number: usize,
     list: &mut [u32],
-) -> Shown
+) -> Result<usize, Reason>
     requires { Numbered count number (length marks.old) }
-    ensures value { result ≡ fit_answer (graph_of records.now pairs.now) count number (length list.old) }
+    ensures value { shown_of result ≡ fit_answer (graph_of records.now pairs.now) count number (length list.old) }
     ensures list_after { list.new ≡ fit_list (graph_of records.now pairs.now) count number (length list.old) }
 {
     if !table_fits(records, pairs, marks, count) {
         list.fill(0);
-        return Shown::Refused(18);
+        return Err(Reason::BadTable);
     }
     let total = walked(records, pairs, marks, number, list);
     if list.len() < total {
         list.fill(0);
-        return Shown::Refused(23);
+        return Err(Reason::OutputTooSmall);
     }
-    Shown::Listed(total)
+    Ok(total)
 }
 
-// The materials that a primitive may show, smallest first, zeros after; a refusal zeroes the list.
+// The materials that a primitive may show, smallest first, zeros after, and how many they are; a refusal zeroes the list.
 pub fn list_shown(
     records: &[u32],
     pairs: &[u32],
     count: usize,
     number: usize,
     list: &mut [u32],
-) -> Shown
-    ensures value { result ≡ shown_answer records.now pairs.now count number (length list.old) }
+) -> Result<usize, Reason>
+    ensures value { shown_of result ≡ shown_answer records.now pairs.now count number (length list.old) }
     ensures list_after { list.new ≡ shown_list records.now pairs.now count number (length list.old) }
 {
     match pair_refusal(records, pairs, count, number) {
@@ -192,7 +187,7 @@ pub fn list_shown(
         }
         Err(reason) => {
             list.fill(0);
-            Shown::Refused(reason.number())
+            Err(reason)
         }
     }
 }

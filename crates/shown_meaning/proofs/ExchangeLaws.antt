@@ -33,7 +33,7 @@ use Rattle.shown.proofs.AnswerLaws.{all_listed, number_taken}
 use Rattle.shown_meaning.proofs.MeaningLaws.{fits}
 use Rattle.shown.specs.Code.{padded}
 use Rattle.shown.specs.List.{fit_answer, fit_list, pair_refusal, shown_answer, shown_list, table_fits}
-use Rattle.shown.specs.declared.Shown.TheVariants.{Listed}
+use Rattle.shown.specs.Shown.{Listed}
 use Rattle.shown_meaning.specs.Exchange.{ListExchange}
 use Rattle.sides.proofs.MixedLaws.{resolved}
 use Rattle.sides.proofs.MovedLaws.{number_on, some_moved}

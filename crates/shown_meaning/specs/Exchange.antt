@@ -11,7 +11,7 @@ use Rattle.scene.specs.Reading.{Entry}
 use Rattle.scene.specs.Record.{settings_for}
 use Rattle.scene.specs.declared.Mode.{Mode}
 use Rattle.shown.specs.List.{shown_answer, shown_list}
-use Rattle.shown.specs.declared.Shown.TheVariants.{Listed}
+use Rattle.shown.specs.Shown.{Listed}
 use Rattle.sides.specs.Exchange.{MixedExchange}
 
 -- a list with a number for each primitive is never refused

@@ -4,7 +4,6 @@
 
 use output::{ErrorStream, Refused};
 use scene_texts::{Program, Scene};
-use shown::Shown;
 use std::io;
 use std::rt::Env;
 use table::MOST_RECORDS;
@@ -22,13 +21,13 @@ fn print_shown(rt: &impl Print, scene: &Scene<'_>, number: usize) -> io::Result<
         number,
         &mut list,
     ) {
-        Shown::Listed(many) => {
+        Ok(many) => {
             let mut line = [0u8; LINE];
             let listed = &list[..many.min(MOST_RECORDS)];
             let n = shown_listing::shown_line(&mut line, scene.text, scene.records, number, listed);
             rt.write_all(&line[..n])
         }
-        Shown::Refused(reason) => output::print_refusal(rt, Refused::without_line(reason, 0)),
+        Err(reason) => output::print_refusal(rt, Refused::without_line(reason.number(), 0)),
     }
 }
 

@@ -71,6 +71,7 @@ pub struct Seen {
 
 // What a word comes to: the statement goes on, with a real to store or none; it is complete, with a last real or none; or the
 // text is refused. `Ended` is no word's: the text ends between two statements. The state stands first, so at one place in each.
+// No `Result`: these are the steps of a state machine, and four of the six hand the state on.
 #[derive(Clone, Copy)]
 pub enum Step {
     Going(State),

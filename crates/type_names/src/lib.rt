@@ -67,6 +67,7 @@ fn packed(word: &[u8]) -> u64
 }
 
 // The number of the type with a name of at most seven bytes, found at once.
+// By packed numbers: a `match` on byte strings would tell the check the lengths of the names only.
 fn short_number(word: &[u8]) -> Option<u32>
     ensures { IfSome result (λ t. t ≡ type_number word.now) }
 {

@@ -3,6 +3,7 @@ use mathlib.Core.Path.{refl, sym}
 use Prim.Native.Nat.{◌≤◌}
 use native.Mathlib.Omega.{arith}
 use lib.Seq.{length-take-le}
+use Rattle.join_answer.proofs.AnswerLaws.{refuses}
 use Rattle.joiner.proofs.OrderLaws.{proposes_order, proposes_refused}
 use Rattle.joiner.proofs.propose.Goals as goal
 
@@ -14,7 +15,8 @@ slice_bounds-propose_order-end c =
 pub returns-in-Err : goal.returns-in-Err
 returns-in-Err c =
     let a = c.args in
-    proposes_refused a.mode a.base.now a.left.now a.right.now a.records.now a.reals.now a.out.now c.plan-planned.result.order _ _ _ (rw c.in-Err.is at c.plan-planned.ensures) c.refuse.ensures
+    let e = c.refuse.ensures in
+    proposes_refused a.mode a.base.now a.left.now a.right.now a.records.now a.reals.now a.out.now c.plan-planned.result.order _ _ _ (rw c.in-Err.is at c.plan-planned.ensures) (refuses _ e.value e.records_after e.reals_after e.out_after)
 
 pub returns-in-Ok : goal.returns-in-Ok
 returns-in-Ok c =

@@ -10,7 +10,7 @@ use Rattle.ties.specs.Ties.{bound_rows}
 use Rattle.precedence.proofs.AnswerLaws.{link_held, link_none}
 use Rattle.precedence.proofs.ChainLaws.{first_link_is, in_front}
 use Rattle.precedence.proofs.linked.Goals as goal
-use Rattle.precedence.proofs.linked.Goals.{After-fill, After-first_link-k}
+use Rattle.precedence.proofs.linked.Goals.{After-fill, After-first_link-by}
 
 pub slice_bounds-fill-end : goal.slice_bounds-fill-end
 slice_bounds-fill-end c = let h : c.args.last + 1 ≤ 1025 = omega arith in sym (length-take-le _ _ h)
@@ -28,19 +28,19 @@ slice_bounds-lengths-end-2 c = front_within c.fill.new.lengths _ (kept-lengths (
 pub slice_bounds-first_link-end : goal.slice_bounds-first_link-end
 slice_bounds-first_link-end c = sym (length-take-le _ _ (front_within c.fill.new.lengths _ (kept-lengths (goal.at.slice_bounds-first_link-end c).After-fill)))
 
-pub first_link-k-requires : goal.first_link-k-requires
-first_link-k-requires c = in_front _ _ _ (front_within c.fill.new.lengths _ (kept-lengths (goal.at.first_link-k-requires c).After-fill)) (omega arith)
+pub first_link-by-requires : goal.first_link-by-requires
+first_link-by-requires c = in_front _ _ _ (front_within c.fill.new.lengths _ (kept-lengths (goal.at.first_link-by-requires c).After-fill)) (omega arith)
 
 -- what is found is the first link
-link : (c : After-first_link-k) → let a = c.args in c.first_link-k.result ≡ first_link (bound_rows a.records.now a.classes.now) a.first a.last
+link : (c : After-first_link-by) → let a = c.args in c.first_link-by.result ≡ first_link (bound_rows a.records.now a.classes.now) a.first a.last
 link c =
     let p = c.requires in
     let h : c.args.last + 1 ≤ 1025 = omega arith in
     let kept : length c.fill.new.lengths ≡ c.args.last + 1 = c.fill.auto.lengths ∙ length-take-le _ _ h in
-    first_link_is _ c.fill.new.lengths _ _ _ _ c.fill.ensures kept (take_at c.fill.new.lengths _ _ kept) p.rises c.first_link-k.ensures
+    first_link_is _ c.fill.new.lengths _ _ _ _ c.fill.ensures kept (take_at c.fill.new.lengths _ _ kept) p.rises c.first_link-by.ensures
 
-pub returns-then-k-eq0 : goal.returns-then-k-eq0
-returns-then-k-eq0 c = link_none _ _ _ _ _ (link (goal.at.returns-then-k-eq0 c).After-first_link-k) c.if-k-eq0.true
+pub returns-then-by-eq0 : goal.returns-then-by-eq0
+returns-then-by-eq0 c = link_none _ _ _ _ _ (link (goal.at.returns-then-by-eq0 c).After-first_link-by) c.if-by-eq0.true
 
 pub returns : goal.returns
-returns c = link_held _ _ _ _ _ (link (goal.at.returns c).After-first_link-k) c.if-k-eq0.false _ c.binder.ensures
+returns c = link_held _ _ _ _ _ (link (goal.at.returns c).After-first_link-by) c.if-by-eq0.false _ c.binder.ensures

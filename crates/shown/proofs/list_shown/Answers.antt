@@ -14,7 +14,7 @@ pub returns-in-Err : goal.returns-in-Err
 returns-in-Err c =
     let a = c.args in
     let known = refused_number c.pair_refusal.result c.in-Err.reason _ c.in-Err.is c.pair_refusal.ensures in
-    let u = number_refused a.records.now a.pairs.now a.count a.number (length a.list.now) (c.number.ensures ∙ known.0) (λ z. known.1 (sym known.0 ∙ sym c.number.ensures ∙ z)) in
+    let u = number_refused a.records.now a.pairs.now a.count a.number (length a.list.now) known.0 (λ z. known.1 (sym known.0 ∙ z)) in
     let blank : c.fill.new.self ≡ replicate (length a.list.now) 0 = search rules in
     record { value = u.0; list_after = blank ∙ u.1 }
 

@@ -7,7 +7,7 @@ use mathlib.Core.Path.{◌≡◌, refl, ap, sym, ◌∙◌}
 use Prim.Native.Nat.{ℕ, zero, suc, ◌+◌, ◌≤◌, ◌<◌}
 use native.Mathlib.Numerals.{add-one}
 use native.Mathlib.Omega.{arith}
-use borrow.Author.Tests.{eq-eqb, ne_eqb, le-ltb, lt-ltb, not-false, not-true}
+use borrow.Author.Tests.{eq-eqb, ne_eqb, le-ltb, lt-ltb}
 use lib.ListN.{length, set, drop, length-append, drop_of_length-le, replicate}
 use lib.Seq.{append_snoc, drop-cons, set_at}
 use Rattle.blocks.specs.Code.{Cuts, block_end_in, crowded_in, early_in, end_in, ends_to, tail_in, table_of, verdict_in, verdict_of}
@@ -50,10 +50,6 @@ module _ (text : Bytes) (at : ℕ) {end : ℕ} (e : end ≡ past is_in_line text
   pub line_within : end < length text → end + 1 ≡ behind_line text at
   unfolding behind_line
   line_within h = omega arith
-
-  pub line_last : length text ≤ end → length text ≡ behind_line text at
-  unfolding behind_line
-  line_last h = omega arith
 
 -- ---- crowding
 

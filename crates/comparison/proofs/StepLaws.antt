@@ -168,12 +168,29 @@ follows_held l r p q v n x e f g h = h ∙ (λ i. numbers_after l r (nth_of (f i
 
 -- ---- what a key comes to, by its numbers
 
+-- of the numbers of a key that some scene has, one is not 0
+one_there : (m n k : ℕ) (at : Numbers) → Some at ≡ numbers_by m n k → at.left ≡ 0 → at.right ≡ 0 → ⊥
+one_there zero zero k at e f g = cc
+one_there zero (suc n) k at e f g = let q : at.right ≡ suc n = ap (λ (a : Numbers). a.right) (same_Some _ _ e) in omega (arith, q, g)
+one_there (suc m) n k at e f g = let q : at.left ≡ suc m = ap (λ (a : Numbers). a.left) (same_Some _ _ e) in omega (arith, q, f)
+
+pub one_next : (l r : List Told) (p : Place) (at : Numbers) → Some at ≡ next_numbers l r p → at.left ≡ 0 → at.right ≡ 0 → ⊥
+one_next l r p at e = go (next_key l r (key_in l r p)) e
+  where
+    go : (o : Option Key) → Some at ≡ numbers_for l r o → at.left ≡ 0 → at.right ≡ 0 → ⊥
+    go none e f g = cc
+    go (some k) e f g = one_there (length (found k l)) (length (found k r)) k.nth at e f g
+
 module _ (m n k : ℕ) (s : Bool) where
   abbrev by : Step
   by = step_in (state_by m n s) (place_by m n) k
 
-  pub by_right : m ≡ 0 → step.Line (on.Right n) k is.OnlyRight ≡ by
-  by_right e = λ i. step_in (state_by (sym e i) n s) (place_by (sym e i) n) k
+  pub by_right : m ≡ 0 → (n ≡ 0 → ⊥) → step.Line (on.Right n) k is.OnlyRight ≡ by
+  by_right e f = go n f ∙ (λ i. step_in (state_by (sym e i) n s) (place_by (sym e i) n) k)
+    where
+      go : (n : ℕ) → (n ≡ 0 → ⊥) → step.Line (on.Right n) k is.OnlyRight ≡ step_in (state_by 0 n s) (place_by 0 n) k
+      go zero f = absurd (f refl)
+      go (suc n) f = refl
 
   module _ (e : m ≡ 0 → ⊥) where
     pub by_left : n ≡ 0 → step.Line (on.Left m) k is.OnlyLeft ≡ by

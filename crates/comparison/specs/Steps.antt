@@ -51,9 +51,10 @@ next_numbers l r p = numbers_after l r (key_in l r p)
 
 -- ---- what a key comes to
 
--- by its numbers, of which one is not 0, and by whether its primitives are the same where both scenes have it
+-- by its numbers, and by whether its primitives are the same where both scenes have it
 abbrev pub state_by : (m n : ℕ) → (same : Bool) → State
-state_by zero n s = right
+state_by zero zero s = absent
+state_by zero (suc n) s = right
 state_by (suc m) zero s = left
 state_by (suc m) (suc n) s = cond s alike changed
 

@@ -1,14 +1,24 @@
 -- One link of the finish walk.
-use Rattle.std.specs.Prelude.{cond, ◌≡◌, ℕ, ◌+◌, ◌-◌, ◌<◌}
+use Rattle.std.specs.Prelude.{cond, ◌≡◌, ℕ, ◌+◌, ◌-◌, ◌<◌, Result}
+use Rattle.std.specs.declared.ops.ControlFlow.{ControlFlow}
+use Rattle.std.specs.declared.ops.ControlFlow.TheVariants.{Break, Continue}
+use Rattle.finish.specs.Answer.{finish_answer}
+use Rattle.finish.specs.declared.Stopped.{Stopped}
 use Rattle.finish.specs.Walk.{walk_from}
 use Rattle.finish.specs.Finish.{Finish, Reached, Refused}
 use Rattle.scene.specs.Types.{is_material, is_modifier}
 use Rattle.table.specs.View.{View}
+use Rattle.finish.specs.declared.Reached.{Reached as Arrival}
 
 -- what a link leads to: the walk ends, or goes on from a primitive
 pub data Link : Type 0 where
   Ended : (finish : Finish) → Link
   On : (from : ℕ) → Link
+
+-- as the code has it
+abbrev pub link_of : ControlFlow (Result Arrival Stopped) ℕ → Link
+link_of (Break r) = Ended (finish_answer r)
+link_of (Continue m) = On m
 
 -- what primitive m of type t comes to, reached by k links
 unfoldable pub reached_of : (t m k : ℕ) → Link

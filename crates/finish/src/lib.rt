@@ -2,8 +2,8 @@
 #![tactic(auto)]
 
 ghost use Rattle.std.specs.Prelude.{◌≡◌};
-ghost use Rattle.finish.specs.Answer.{finish_answer, link_of};
-ghost use Rattle.finish.specs.Follow.{Follows, reached_of};
+ghost use Rattle.finish.specs.Answer.{finish_answer};
+ghost use Rattle.finish.specs.Follow.{Follows, link_of, reached_of};
 ghost use Rattle.finish.specs.Question.{name_refusal, name_test, shown_name};
 ghost use Rattle.finish.specs.Walk.{finish_of, walk_from};
 ghost use Rattle.table.specs.Question.{refusal_number};

@@ -6,9 +6,6 @@ use native.Mathlib.Omega.{arith}
 use borrow.Author.Tests.{le-leb, leb-false, leb-true, lt-leb}
 use lib.Dec.{leb}
 use Rattle.mover.specs.Answer.{moved_refusal}
-use Rattle.scene.specs.Reason.{reason_number}
-use Rattle.scene.specs.declared.Reason.{Reason}
-use Rattle.scene.specs.declared.Reason.TheVariants.{TextTooLong, BadByte, WordTooLong, Command, EndsInStatement, NoRoomForRecord, UnknownModifier, UnknownType, NameIsVoid, UnknownTarget, BadCount, NoRoomForReals, BadNumeral, NumeralTooLarge, BreaksHouseRule, NoSuchPrimitive, BadTable, AllowanceUsedUp, NotFinite, OutOfRange, TablesDiffer, OutputTooSmall, IndexTooShort, UnknownSide, Loop, PairsTooShort, RetiredType, NameTwice, ChangedByBoth, NoOrder, NotTheJoin, LastLineOpen, LineOfTwo}
 
 module _ (long : Bool) (reals room len output : ℕ) where
   pub too_long : long ≡ true → 1 ≡ moved_refusal long reals room len output
@@ -47,39 +44,3 @@ not_refused false reals room len out e = (refl, go (leb reals room) (leb len out
     go false b h e = absurd (omega arith)
     go true false h e = absurd (omega arith)
     go true true h e = leb-true len out h
-
--- a reason's number is never the 0 of no refusal
-pub reason_above : (r : Reason) → reason_number r ≡ 0 → ⊥
-reason_above TextTooLong h = absurd (omega arith)
-reason_above BadByte h = absurd (omega arith)
-reason_above WordTooLong h = absurd (omega arith)
-reason_above Command h = absurd (omega arith)
-reason_above EndsInStatement h = absurd (omega arith)
-reason_above NoRoomForRecord h = absurd (omega arith)
-reason_above UnknownModifier h = absurd (omega arith)
-reason_above UnknownType h = absurd (omega arith)
-reason_above NameIsVoid h = absurd (omega arith)
-reason_above UnknownTarget h = absurd (omega arith)
-reason_above BadCount h = absurd (omega arith)
-reason_above NoRoomForReals h = absurd (omega arith)
-reason_above BadNumeral h = absurd (omega arith)
-reason_above NumeralTooLarge h = absurd (omega arith)
-reason_above BreaksHouseRule h = absurd (omega arith)
-reason_above NoSuchPrimitive h = absurd (omega arith)
-reason_above BadTable h = absurd (omega arith)
-reason_above AllowanceUsedUp h = absurd (omega arith)
-reason_above NotFinite h = absurd (omega arith)
-reason_above OutOfRange h = absurd (omega arith)
-reason_above TablesDiffer h = absurd (omega arith)
-reason_above OutputTooSmall h = absurd (omega arith)
-reason_above IndexTooShort h = absurd (omega arith)
-reason_above UnknownSide h = absurd (omega arith)
-reason_above Loop h = absurd (omega arith)
-reason_above PairsTooShort h = absurd (omega arith)
-reason_above RetiredType h = absurd (omega arith)
-reason_above NameTwice h = absurd (omega arith)
-reason_above ChangedByBoth h = absurd (omega arith)
-reason_above NoOrder h = absurd (omega arith)
-reason_above NotTheJoin h = absurd (omega arith)
-reason_above LastLineOpen h = absurd (omega arith)
-reason_above LineOfTwo h = absurd (omega arith)

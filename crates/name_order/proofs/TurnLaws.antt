@@ -1,24 +1,13 @@
--- Numbering and merging, entry by entry.
+-- Merging, entry by entry.
 use mathlib.Core.Bool.{Bool, true, false, false≢true}
 use mathlib.Core.List.{List, [], ◌∷◌, ◌++◌, append-nil, append_assoc}
-use mathlib.Core.Logic.{◌⊎◌, inl, inr}
-use mathlib.Core.Path.{◌≡◌, refl, ap, sym, ◌∙◌, subst}
+use mathlib.Core.Path.{◌≡◌, refl, ap, sym, ◌∙◌}
 use Prim.Native.Nat.{ℕ, suc, ◌+◌, ◌<◌, ◌≤◌}
 use native.Mathlib.Nat.{add-zero}
 use native.Mathlib.Omega.{arith}
 use lib.ListN.{length, get_or, set, take, drop, length-set, length-drop, drop_of_length-le}
-use lib.Seq.{drop-cons, drop-drop, get_or-drop, get_or-set_same, get_or-set_other, take_all, take-suc-set}
-use Rattle.laws.proofs.NatLaws.{le_or_lt}
+use lib.Seq.{drop-cons, drop-drop, get_or-drop, take_all, take-suc-set}
 use Rattle.name_order.specs.Merge.{merge, right_first}
-
--- ---- numbering
-
-pub number_more : (o : List ℕ) (i : ℕ) → i < length o → ((k : ℕ) → k < i → get_or o k 0 ≡ k + 1) → (k : ℕ) → k < i + 1 → get_or (set o i (i + 1)) k 0 ≡ k + 1
-number_more o i h e k l = go (le_or_lt i k)
-  where
-    go : (i ≤ k) ⊎ (k < i) → get_or (set o i (i + 1)) k 0 ≡ k + 1
-    go (inl m) = let q : k ≡ i = omega arith in subst (λ (n : ℕ). get_or (set o i (i + 1)) n 0 ≡ n + 1) (sym q) (get_or-set_same o i (i + 1) 0 h)
-    go (inr m) = get_or-set_other o i k (i + 1) 0 (λ q. omega arith) ∙ e k m
 
 -- ---- merging
 

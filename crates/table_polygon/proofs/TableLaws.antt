@@ -1,8 +1,7 @@
 -- Laws of a polygon in a table: one for each answer.
-use mathlib.Core.Bool.{Bool, true, false, cond, ◌&&◌}
 use mathlib.Core.List.{List}
 use mathlib.Core.Path.{◌≡◌, refl, ap, sym, ◌∙◌}
-use Prim.Native.Nat.{ℕ, ◌+◌, ◌*◌, ◌≤◌, ◌<◌}
+use Prim.Native.Nat.{ℕ, ◌+◌, ◌≤◌, ◌<◌}
 use borrow.Author.Tests.{le-leb, lt-leb, eq-eqb, ne_eqb}
 use lib.Dec.{leb}
 use lib.Ieee.{Float}
@@ -11,7 +10,7 @@ use Rattle.hits.specs.Outcome.{refused}
 use Rattle.hits.specs.declared.Ray.{Ray}
 use Rattle.laws.specs.Bytes.{same}
 use Rattle.polygon.specs.Polygon.{polygon_hit}
-use Rattle.scene.specs.Record.{field_in, record_in, width}
+use Rattle.scene.specs.Record.{field_in, record_in}
 use Rattle.scene.specs.Told.{reals_of}
 use Rattle.scene.specs.Types.{number_from, type_number}
 use Rattle.table.specs.Question.{number_refusal}
@@ -38,18 +37,6 @@ module _ (t real n lent : ℕ) where
     corners_lent h = rw (eq-eqb t polygon_type (e ∙ sym polygon_number), le-leb (real + n) lent h)
 
 module _ (table : List ℕ) (count n lent : ℕ) where
-  pub number_bad : (number_refusal table count n ≡ 0 → ⊥) → (number_refusal table count n ≡ 17 → ⊥) → 18 ≡ number_refusal table count n
-  unfolding number_refusal
-  number_bad f g = go (leb count 1024 && leb (count * width) (length table)) (leb 1 n && leb n count) f g
-    where
-      number : (a b : Bool) → ℕ
-      number a b = cond a (cond b 0 17) 18
-
-      go : (a b : Bool) → (number a b ≡ 0 → ⊥) → (number a b ≡ 17 → ⊥) → 18 ≡ number a b
-      go true true f g = absurd (f refl)
-      go true false f g = absurd (g refl)
-      go false b f g = refl
-
   pub refusal_number : (number_refusal table count n ≡ 0 → ⊥) → number_refusal table count n ≡ polygon_refusal table count n lent
   unfolding polygon_refusal
   refusal_number h = rw (ne_eqb (number_refusal table count n) 0 h)

@@ -5,7 +5,7 @@ use Rattle.comparison.proofs.step_of.Goals as goal
 pub returns-in-0-default : goal.returns-in-0-default
 returns-in-0-default c =
     let a = c.args in
-    by_right a.at.left a.at.right a.at.nth a.same c.in-0-default.is-0
+    by_right a.at.left a.at.right a.at.nth a.same c.in-0-default.is-0 (c.requires c.in-0-default.is-0)
 
 pub returns-in_default-eq0 : goal.returns-in_default-eq0
 returns-in_default-eq0 c =

@@ -1,6 +1,6 @@
 -- `finish::follow` meets its contract.
 use native.Mathlib.Omega.{arith}
-use Rattle.finish.specs.Answer.{link_of}
+use Rattle.finish.specs.Follow.{link_of}
 use Rattle.finish.proofs.WalkLaws.{follows_0, follows_late, follows_out, follows_type}
 use Rattle.finish.proofs.follow.Goals as goal
 

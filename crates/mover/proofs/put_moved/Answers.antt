@@ -3,7 +3,7 @@ use mathlib.Core.Path.{ap, sym, refl, ◌∙◌}
 use Prim.Native.Nat.{ℕ}
 use lib.ListN.{length-replicate}
 use Rattle.mover.proofs.AnswerLaws.{moved_all, moved_refused}
-use Rattle.mover.proofs.RefusalLaws.{reason_above}
+use Rattle.table.proofs.RefusalLaws.{reason_above}
 use Rattle.mover.specs.Code.{number_of}
 use Rattle.mover.proofs.put_moved.Goals as goal
 

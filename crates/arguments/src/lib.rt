@@ -116,7 +116,7 @@ pub fn real(word: &[u8], room: usize, s: State, v: Seen) -> Step
         Err(NumeralError::TooLarge) => refused(Reason::NumeralTooLarge, v.place),
         Ok(x) => {
             let d = s.draft;
-            let nth = d.reals.saturating_sub(s.left);
+            let nth = less(d.reals, s.left);
             if kinds::breaches(d.kind, nth, x, v.previous, v.first) {
                 return refused(Reason::BreaksHouseRule, v.place);
             }

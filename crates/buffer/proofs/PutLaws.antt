@@ -6,9 +6,7 @@ use Prim.Native.Nat.{ℕ, zero, suc, ◌+◌, ◌-◌, ◌≤◌, min}
 use native.Mathlib.Nat.{zero-add, zero-sub, sub-zero, suc-sub-suc}
 use native.Mathlib.Omega.{arith}
 use lib.ListN.{length, take, drop, length-append, length-take, length-drop, drop_of_length-le}
-use lib.Seq.{paste, take_all, take_at, take-take, drop-drop, drop-append-add}
-use borrow.Rule.Slice.PartMut.{put_mid}
-use Rattle.std.proofs.lemmas.Slice.{put_mid-paste}
+use lib.Seq.{paste, take_all, take_at, drop-drop, drop-append-add}
 use Rattle.laws.proofs.ListLaws.{take_min, drop_min}
 use Rattle.laws.proofs.NatLaws.{le_or_lt}
 use Rattle.laws.specs.Bytes.{Bytes, part}
@@ -30,12 +28,6 @@ module _ (b : Bytes) (at : ℕ) where
       (ap (λ (k : ℕ). take k b) d ∙ take_min at b)
       (ap (λ (k : ℕ). take k x) f ∙ take_min (length b - at) x)
       ∙ ap (λ (t : Bytes). take at b ++ take (length b - at) x ++ t) (ap (λ (k : ℕ). drop k b) g ∙ drop_min (at + length x) b)
-
-  pub copied : (x new : Bytes) (start fit k : ℕ) → start ≡ min at (length b) → fit ≡ min (length x) (length b - start) → new ≡ take fit x → k ≡ fit → put_mid start k b new ≡ put b at x
-  copied x new start fit k d e n h =
-      put_mid-paste start k b new (take fit x) fit n (sym h) (omega (arith, length-take fit x))
-      ∙ ap (λ (t : Bytes). take start b ++ t ++ drop (start + fit) b) (take-take fit fit x (omega arith))
-      ∙ pasted x start fit d e
 
   head_length : (x : Bytes) → length (take at b ++ take (length b - at) x) ≡ min (at + length x) (length b)
   head_length x = omega (arith, length-append (take at b) (take (length b - at) x), length-take at b, length-take (length b - at) x)

@@ -12,7 +12,10 @@ pub fn put_bytes(out: &mut [u8], at: usize, new: &[u8]) -> usize
 {
     let start = at.min(out.len());
     let fit = new.len().min(out.len() - start);
-    out[start..start + fit].copy_from_slice(&new[..fit]);
+    // Byte by byte: `copy_from_slice` would have an archive for C ask for `memmove`.
+    for i in 0..fit {
+        out[start + i] = new[i];
+    }
     at + fit
 }
 

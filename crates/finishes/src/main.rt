@@ -13,10 +13,11 @@ const LINE: usize = 384;
 // The line of a surface. No walk needs more links than there are primitives.
 fn print_finish(rt: &impl Print, scene: &Scene<'_>, number: usize) -> io::Result<()> {
     let count = scene.primitives;
-    match finish::finish_of(scene.records, count, number, count) {
+    let records = scene.records;
+    match finish::finish_of(records, count, number, count) {
         Ok(reached) => {
             let mut line = [0u8; LINE];
-            let lent = table::first_records(scene.records, count);
+            let lent = table::first_records(records, count);
             let n = finish_listing::finish_line(
                 &mut line,
                 scene.text,

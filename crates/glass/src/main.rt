@@ -17,14 +17,9 @@ impl Rewrite for Glass {
     const USAGE: &'static [u8] = b"usage: glass [--archive] forth|back [FILE..]\n";
 
     fn rewrite(&self, scene: &Scene<'_>, out: &mut [u8]) -> Result<usize, Refusal> {
-        mover::move_glass(
-            scene.mode,
-            self.direction,
-            scene.text,
-            scene.records,
-            scene.reals,
-            out,
-        )
+        let records = scene.records;
+        let reals = scene.reals;
+        mover::move_glass(scene.mode, self.direction, scene.text, records, reals, out)
     }
 }
 

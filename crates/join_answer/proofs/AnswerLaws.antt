@@ -14,6 +14,7 @@ use Rattle.join_answer.specs.Settled.{Settles}
 use Rattle.join_answer.specs.Answer as call
 use Rattle.join_answer.specs.declared.Joined.{Joined as Counts}
 use Rattle.joining.specs.Outcome.{Outcome, joined, refused}
+use Rattle.joining.specs.declared.Scene.{Scene}
 use Rattle.joining.specs.declared.Scene.TheVariants as scene
 use Rattle.joining.specs.declared.SceneRefusal.{SceneRefusal}
 use Rattle.laws.specs.Bytes.{Bytes}
@@ -45,16 +46,18 @@ module _ {o : Outcome} {records : List ℕ} {reals : List Float} {out : Bytes} {
 
 -- what `refuse` answers and leaves is the refusal of a whole call
 module _ {records : List ℕ} {reals : List Float} {out : Bytes} {records' : List ℕ} {reals' : List Float} {out' : Bytes} where
+  -- by any number and at any place
+  pub refuses_any : (t : Scene) (n p : ℕ) {a : Answer} → a ≡ call.Refused t n p → records' ≡ replicate (length records) 0 → reals' ≡ replicate (length reals) zero_real → out' ≡ replicate (length out) 0 → Joins (refused t n p) records reals out a records' reals' out'
+  refuses_any t n p e a b c = record {
+    says = e;
+    table = a ∙ zero_records [] (length records) n p;
+    doubles = b ∙ zero_reals (length reals) n p;
+    output = c ∙ ap (λ (k : ℕ). replicate k 0) (sym (sub-zero (length out)));
+  }
+
+  -- as the code refuses
   pub refuses : {r : Result Counts SceneRefusal} (w : SceneRefusal) → r ≡ Err w → records' ≡ replicate (length records) 0 → reals' ≡ replicate (length reals) zero_real → out' ≡ replicate (length out) 0 → Joins (refused w.scene (reason_number w.refusal.reason) w.refusal.place) records reals out (answer_of r) records' reals' out'
-  refuses w e a b c =
-      let n = reason_number w.refusal.reason in
-      let p = w.refusal.place in
-      record {
-        says = ap (λ (z : Result Counts SceneRefusal). answer_of z) e;
-        table = a ∙ zero_records [] (length records) n p;
-        doubles = b ∙ zero_reals (length reals) n p;
-        output = c ∙ ap (λ (k : ℕ). replicate k 0) (sym (sub-zero (length out)));
-      }
+  refuses w e = refuses_any w.scene (reason_number w.refusal.reason) w.refusal.place (ap (λ (z : Result Counts SceneRefusal). answer_of z) e)
 
 -- ---- an accepted text put into the output
 

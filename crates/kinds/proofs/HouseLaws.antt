@@ -100,6 +100,11 @@ module _ (t k : ℕ) (x y z : Float) where
   unfolding breach_at type_number number_from same
   no_material_rule = between breach false 10 8 (refl, (refl, (refl, (refl, (refl, (refl, (refl, (refl, tt)))))))) t
 
+-- the rules of other types than surfaces are about one real alone
+pub other_alone : (t k : ℕ) (x y z : Float) → 10 ≤ t → breach_at house_rules t k x x x ≡ breach_at house_rules t k x y z
+unfolding breach_at type_number number_from same
+other_alone t k x y z l = rw (ne_eqb 1 t (λ e. omega arith), ne_eqb 5 t (λ e. omega arith), ne_eqb 6 t (λ e. omega arith), ne_eqb 9 t (λ e. omega arith))
+
 -- ---- the types that have a rule
 
 -- a type that has none breaks none

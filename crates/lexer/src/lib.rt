@@ -16,6 +16,25 @@ pub enum Class {
     Bad,
 }
 
+// The number of each class.
+pub const BLANK: u8 = 0;
+
+pub const GOOD: u8 = 1;
+
+pub const BAD: u8 = 2;
+
+impl Class {
+    pub fn number(self) -> u8
+        ensures { result ≡ class_number self }
+    {
+        match self {
+            Class::Blank => BLANK,
+            Class::Good => GOOD,
+            Class::Bad => BAD,
+        }
+    }
+}
+
 // A word of a text: where it starts and how many bytes it has.
 #[derive(Clone, Copy, PartialEq, Eq, Debug)]
 pub struct Word {
@@ -99,8 +118,8 @@ pub fn next_word(text: &[u8], at: usize) -> Word
 pub fn part(text: &[u8], place: usize, len: usize) -> &[u8]
     ensures { result.now ≡ part text.now place len }
 {
-    let start = place.min(text.len());
-    let end = start + len.min(text.len() - start);
+    let start = least(place, text.len());
+    let end = start + least(len, text.len() - start);
     &text[start..end]
 }
 

@@ -1,13 +1,9 @@
 -- On the table of an accepted text the line counted on is that of the name's place.
-use mathlib.Core.Bool.{Bool, true, false, cond}
 use mathlib.Core.List.{List, [], ◌∷◌}
 use mathlib.Core.Path.{◌≡◌, refl, ap, sym, ◌∙◌}
-use Prim.Native.Nat.{ℕ, suc, ◌+◌, ◌-◌, ◌≤◌, min}
+use Prim.Native.Nat.{ℕ, ◌+◌, ◌-◌, ◌≤◌, min}
 use native.Mathlib.Omega.{arith}
-use lib.Dec.{eqb}
 use lib.ListN.{length}
-use Rattle.std.proofs.lemmas.List.Sums.{sum_by-cons}
-use Rattle.std.specs.List.{count_by}
 use Rattle.laws.specs.Bytes.{Bytes, part}
 use Rattle.line_numbers.specs.Lines.{line_before, line_from}
 use Rattle.scene.proofs.ImageLaws.{line_is, record_is}
@@ -15,16 +11,6 @@ use Rattle.scene.proofs.LineLaws.{line_on}
 use Rattle.scene.proofs.RiseLaws.{last_name}
 use Rattle.scene.specs.Reading.{Entry}
 use Rattle.scene.specs.Record.{Record, field_in, filled, flat, line_at, newlines, record_in, record_of, records}
-
-one_line : (e : Bool) (n : ℕ) → cond e 1 0 + n ≡ cond e (suc n) n
-one_line true n = omega arith
-one_line false n = omega arith
-
--- the bytes that end a line, counted
-pub newlines_counted : (text : Bytes) → count_by (λ b. eqb b 10) text ≡ newlines text
-unfolding newlines
-newlines_counted [] = refl
-newlines_counted (b ∷ text) = sum_by-cons (λ (x : ℕ). cond (eqb x 10) 1 0) b text ∙ ap (λ (n : ℕ). cond (eqb b 10) 1 0 + n) (newlines_counted text) ∙ one_line (eqb b 10) (newlines text)
 
 module _ (text : Bytes) (es : List Entry) (m : ℕ) where
   abbrev table : List ℕ

@@ -18,7 +18,11 @@ pub fn ends_line(b: u8) -> usize
 fn line_ends(text: &[u8]) -> usize
     ensures { result ≡ newlines text.now }
 {
-    text.iter().filter(|b| **b == b'\n').count()
+    let mut lines = 0;
+    for b in text {
+        lines += ends_line(*b);
+    }
+    lines
 }
 
 // The line of a place, from 1.

@@ -26,7 +26,8 @@ fn print_head(
 
 fn print_row(rt: &impl Print, scene: &Scene<'_>, number: usize) -> io::Result<()> {
     let mut line = [0u8; LINE];
-    let n = listing::row_line(&mut line, scene.text, scene.records, number);
+    let records = scene.records;
+    let n = listing::row_line(&mut line, scene.text, records, number);
     rt.write_all(&line[..n])
 }
 

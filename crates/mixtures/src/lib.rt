@@ -17,8 +17,11 @@ pub fn side(pairs: &[u32], n: usize, k: usize) -> usize
     if n == 0 {
         return 0;
     }
-    let at = (n - 1).saturating_mul(2).saturating_add(k);
-    pairs.get(at).copied().unwrap_or(0) as usize
+    let row = n - 1;
+    if pairs.len() / 2 < row {
+        return 0;
+    }
+    pairs.get((row * 2).saturating_add(k)).copied().unwrap_or(0) as usize
 }
 
 fn modifier(records: &[u32], n: usize) -> usize

@@ -74,6 +74,7 @@ pub struct Decimal {
 
 impl Decimal {
     // The number, rounded once, where the coefficient is below the limit and the power from -22 to 22.
+    #[inline(always)]
     pub fn exact(self) -> Option<f64>
         ensures { Exactly self.negative self.coefficient self.up self.down result }
     {

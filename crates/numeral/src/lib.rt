@@ -6,6 +6,7 @@ mod double;
 ghost use Rattle.std.specs.Prelude.{◌≡◌, ◌^◌, ◌<◌};
 ghost use Rattle.laws.specs.Bytes.{part};
 ghost use Rattle.numeral.specs.Count.{counted, count_of};
+ghost use Rattle.numeral.specs.Exactly.{Exactly};
 ghost use Rattle.numeral.specs.Numeral.{answer_of, numeral_of, reason};
 ghost use Rattle.numeral.specs.Powered.{powered_by};
 ghost use Rattle.numeral_parts.specs.Read.{exponent_in};
@@ -102,6 +103,19 @@ fn powered(negative: bool, m: Mantissa, word: &[u8]) -> Result<f64, NumeralError
             number.nearest()
         }
     }
+}
+
+// c times 10 to the power up less down, where c is below the limit and the power from -22 to 22.
+pub fn exact(negative: bool, c: u64, up: u64, down: u64) -> Option<f64>
+    ensures { Exactly negative c up down result }
+{
+    let number = Decimal {
+        negative,
+        coefficient: c,
+        up,
+        down,
+    };
+    number.exact()
 }
 
 // The numeral in a part of a text; of a part that runs past the text's end, in what is there.

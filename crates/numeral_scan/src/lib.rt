@@ -7,8 +7,6 @@ ghost use Rattle.numeral_parts.specs.Saturated.{limit};
 ghost use Rattle.numeral_scan.specs.Pieces.{stands, RowAt, FractionAt, ExponentAt, PowerAt};
 ghost use Rattle.numeral_scan.specs.Scan.{ReadAt};
 
-use numeral::Decimal;
-
 // Below this a number may grow by one digit more and stays below the limit.
 const ROOM: u64 = 100_000_000_000_000;
 
@@ -139,12 +137,6 @@ pub fn numeral_from(text: &[u8], place: usize) -> Option<Scanned>
     if !lexer::ends_word(text, end) {
         return None;
     }
-    let number = Decimal {
-        negative,
-        coefficient: all.value,
-        up: power.up,
-        down: power.down,
-    };
-    let value = number.exact()?;
+    let value = numeral::exact(negative, all.value, power.up, power.down)?;
     Some(Scanned { end, value })
 }

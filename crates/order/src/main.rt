@@ -16,19 +16,14 @@ const PAIR: usize = 192;
 // with a comma, and a name of 64 with 6 more.
 const NAME: usize = 40960;
 
+#[inline(always)]
 fn print_pair(rt: &impl Print, scene: &Scene<'_>, a: usize, b: usize) -> io::Result<()> {
     let mut line = [0u8; PAIR];
-    let order = precedence::mattered(scene.text, scene.records, scene.primitives, a, b).map_err(
+    let records = scene.records;
+    let order = precedence::mattered(scene.text, records, scene.primitives, a, b).map_err(
         Reason::number,
     );
-    let end = order_listing::pair_line(
-        &mut line,
-        scene.text,
-        scene.records,
-        a.min(b),
-        a.max(b),
-        order,
-    );
+    let end = order_listing::pair_line(&mut line, scene.text, records, a.min(b), a.max(b), order);
     rt.write_all(lexer::part(&line, 0, end.at))
 }
 
@@ -41,7 +36,8 @@ fn is_first(records: &[u32], n: usize) -> bool {
 // The line of a name that is given more than once, at its first definition.
 fn print_name(rt: &impl Print, scene: &Scene<'_>, n: usize) -> io::Result<()> {
     let mut line = [0u8; NAME];
-    let end = name_listing::name_line(&mut line, scene.text, scene.records, scene.primitives, n);
+    let records = scene.records;
+    let end = name_listing::name_line(&mut line, scene.text, records, scene.primitives, n);
     rt.write_all(lexer::part(&line, 0, end.at))
 }
 
@@ -55,12 +51,16 @@ enum Asked {
 impl Program for Asked {
     const USAGE: &'static [u8] = b"usage: order [--archive] FILE [NUMBER NUMBER]\n";
 
+    #[inline(always)]
     fn answer(&self, rt: &(impl Env + Print + ErrorStream), scene: &Scene<'_>) -> io::Result<()> {
         match *self {
             Asked::Pair(a, b) => print_pair(rt, scene, a, b),
-            Asked::Names => (1..=scene.primitives)
-                .filter(|&n| is_first(scene.records, n))
-                .try_for_each(|n| print_name(rt, scene, n)),
+            Asked::Names => {
+                let records = scene.records;
+                (1..=scene.primitives)
+                    .filter(|&n| is_first(records, n))
+                    .try_for_each(|n| print_name(rt, scene, n))
+            }
         }
     }
 }

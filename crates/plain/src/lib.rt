@@ -118,6 +118,7 @@ fn modifier(
 }
 
 // The name that stands next.
+#[inline(always)]
 fn name(text: &[u8], at: usize) -> Option<Passed>
     ensures { IfSome result (Names text.now at) }
 {
@@ -271,7 +272,7 @@ fn head_at(
 fn breaks(reals: &[f64], d: Draft, left: u32, used: usize, x: f64) -> bool
     ensures { result ≡ breach_at house_rules d.kind (d.reals - left) x (back reals.now used 1) (back reals.now used 2) }
 {
-    let count = d.reals.saturating_sub(left);
+    let count = arguments::less(d.reals, left);
     if count < 3 {
         return false;
     }

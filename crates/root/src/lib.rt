@@ -58,7 +58,8 @@ fn find_digits(number: u64) -> Digits
         rest: 0,
         number,
     };
-    for _digit in 0..53u64 {
+    // No range: nothing is called here but this module's own functions and the two that turn a double into its bits and back.
+    while d.found < 53 {
         d = next_digit(d);
     }
     d

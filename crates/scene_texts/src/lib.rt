@@ -2,6 +2,10 @@
 // program's own, and answered below its heading. What a program has of its own is its `Program`.
 #![tactic(auto)]
 
+ghost use Rattle.std.specs.Prelude.{◌≡◌};
+ghost use Rattle.scene.specs.Record.{field_in};
+ghost use Rattle.scene.specs.Types.{is_surface};
+
 use input::{LoadError, TOO_LONG};
 use output::{ErrorStream, Refused};
 use scene::{Mode, Refusal};
@@ -9,22 +13,30 @@ use std::io;
 use std::rt::{Env, Runtime};
 use table::{MOST_BYTES, MOST_NUMBERS, MOST_REALS, MOST_RECORDS};
 
-// A text that was read: which argument names it, its bytes, and what the reading left.
+// The numbers of a table of pairs with room for every record.
+pub const PAIRS: usize = 2 * MOST_RECORDS;
+
+// A text that was read: which argument names it, its bytes, and what the reading left. The tables are arrays, so that the compiler knows
+// their lengths in what a program does with them.
 #[derive(Clone, Copy)]
 pub struct Scene<'a> {
     pub mode: Mode,
     pub number: usize,
     pub text: &'a [u8],
-    pub records: &'a [u32],
-    pub reals: &'a [f64],
-    pub pairs: &'a [u32],
+    pub records: &'a [u32; MOST_NUMBERS],
+    pub reals: &'a [f64; MOST_REALS],
+    pub pairs: &'a [u32; PAIRS],
     pub primitives: usize,
     pub doubles: usize,
 }
 
 impl Scene<'_> {
-    pub fn is_surface(&self, n: usize) -> bool {
-        kinds::is_surface(table::field(self.records, n, table::KIND))
+    // Whether record n is a surface's.
+    pub fn is_surface(&self, n: usize) -> bool
+        ensures { result ≡ is_surface (field_in self.now.records.now n 0) }
+    {
+        let records = self.records;
+        kinds::is_surface(table::field(records, n, table::KIND))
     }
 }
 
@@ -63,7 +75,7 @@ fn read<P: Program>(
 ) -> io::Result<()> {
     let mut records = [0u32; MOST_NUMBERS];
     let mut reals = [0.0f64; MOST_REALS];
-    let mut pairs = [0u32; 2 * MOST_RECORDS];
+    let mut pairs = [0u32; PAIRS];
     let mut index = [0u32; index::ENTRIES];
     let read = reader::read_indexed(mode, text, &mut records, &mut reals, &mut pairs, &mut index);
     match read.answer {

@@ -12,19 +12,16 @@ use table::MOST_RECORDS;
 const LINE: usize = 6144;
 
 // The line of a surface. The list has room for every primitive that a reading stores.
+#[inline(always)]
 fn print_shown(rt: &impl Print, scene: &Scene<'_>, number: usize) -> io::Result<()> {
+    let records = scene.records;
+    let pairs = scene.pairs;
     let mut list = [0u32; MOST_RECORDS];
-    match shown::list_shown(
-        scene.records,
-        scene.pairs,
-        scene.primitives,
-        number,
-        &mut list,
-    ) {
+    match shown::list_shown(records, pairs, scene.primitives, number, &mut list) {
         Ok(many) => {
             let mut line = [0u8; LINE];
             let listed = &list[..many.min(MOST_RECORDS)];
-            let n = shown_listing::shown_line(&mut line, scene.text, scene.records, number, listed);
+            let n = shown_listing::shown_line(&mut line, scene.text, records, number, listed);
             rt.write_all(&line[..n])
         }
         Err(reason) => output::print_refusal(rt, Refused::without_line(reason.number(), 0)),
@@ -36,6 +33,7 @@ struct Shows;
 impl Program for Shows {
     const USAGE: &'static [u8] = b"usage: shows [--archive] [FILE..]\n";
 
+    #[inline(always)]
     fn answer(&self, rt: &(impl Env + Print + ErrorStream), scene: &Scene<'_>) -> io::Result<()> {
         (1..=scene.primitives)
             .filter(|&n| scene.is_surface(n))

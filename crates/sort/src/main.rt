@@ -11,7 +11,9 @@ impl Rewrite for Sort {
     const USAGE: &'static [u8] = b"usage: sort [--archive] [FILE..]\n";
 
     fn rewrite(&self, scene: &Scene<'_>, out: &mut [u8]) -> Result<usize, Refusal> {
-        sorter::sort(scene.mode, scene.text, scene.records, scene.reals, out)
+        let records = scene.records;
+        let reals = scene.reals;
+        sorter::sort(scene.mode, scene.text, records, reals, out)
     }
 
     fn line_at(&self, text: &[u8], place: usize) -> Option<usize> {

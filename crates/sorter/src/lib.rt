@@ -4,9 +4,8 @@
 ghost use Rattle.std.specs.Prelude.{length};
 ghost use Rattle.block_text.specs.BlockText.{WritesBlocks};
 ghost use Rattle.sorter.specs.Answer.{Sorts, sorted_by};
-ghost use Rattle.sorter.specs.Code.{LeavesSorted, order_in};
+ghost use Rattle.sorter.specs.Code.{Fills, LeavesSorted, order_in};
 ghost use Rattle.writer.specs.Answer.{answer_of};
-ghost use Rattle.writer.specs.Left.{Leaves};
 
 use scene::{Mode, Refusal};
 use table::MOST_RECORDS;
@@ -41,7 +40,7 @@ fn put_checked(
     reals: &[f64],
     out: &mut [u8],
 ) -> Result<usize, Refusal>
-    ensures { Leaves (sorted_by mode text.now records.now reals.now (length out.old)) out.old (answer_of result) out.new }
+    ensures { Fills (sorted_by mode text.now records.now reals.now (length out.old)) out.old (answer_of result) out.new }
 {
     let count = fresh::compare(mode, text, records, reals)?;
     put_sorted(text, records, count, out)
@@ -59,5 +58,8 @@ pub fn sort(
     ensures { Sorts mode text.now records.now reals.now out.old (answer_of result) out.new }
 {
     let sorted = put_checked(mode, text, records, reals, out);
-    writer::clear_unused(out, sorted)
+    if sorted.is_err() {
+        out.fill(0);
+    }
+    sorted
 }

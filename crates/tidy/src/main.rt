@@ -11,7 +11,9 @@ impl Rewrite for Tidy {
     const USAGE: &'static [u8] = b"usage: tidy [--archive] [FILE..]\n";
 
     fn rewrite(&self, scene: &Scene<'_>, out: &mut [u8]) -> Result<usize, Refusal> {
-        writer::write(scene.mode, scene.text, scene.records, scene.reals, out)
+        let records = scene.records;
+        let reals = scene.reals;
+        writer::write(scene.mode, scene.text, records, reals, out)
     }
 }
 

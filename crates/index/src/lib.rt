@@ -109,6 +109,7 @@ fn stops(text: &[u8], records: &[u32], word: &[u8], number: usize) -> bool
 }
 
 // The search from a name's own entry on, going round.
+#[tactic(auto, using(crate::proofs::SearchLaws::at_hit, crate::proofs::SearchLaws::at_last))]
 fn probe(text: &[u8], records: &[u32], index: &[u32], word: &[u8]) -> Found
     requires { size ≤ length index.now }
     ensures { result ≡ searched index.now (name_in text.now records.now) word.now }

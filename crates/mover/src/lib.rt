@@ -104,6 +104,7 @@ fn put_checked(
 
 // Writes the tidy text of a text with its glass moved into a lent output, and answers its length. The tables are to be those that
 // reading the text in the same mode leaves; they are compared with a fresh reading, and never written.
+#[tactic(auto, using(writer::proofs::AnswerLaws::left_cleared))]
 pub fn move_glass(
     mode: Mode,
     direction: Direction,

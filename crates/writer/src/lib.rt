@@ -54,6 +54,7 @@ fn put_tidy(
 
 // Writes the tidy text of a text into a lent output, and answers its length. The tables are to be those that reading the text in the
 // same mode leaves; they are compared with a fresh reading, and never written.
+#[tactic(auto, using(crate::proofs::AnswerLaws::left_cleared))]
 pub fn write(
     mode: Mode,
     text: &[u8],

@@ -16,6 +16,7 @@ use ordered::{Cursors, OrderedScene};
 const LEFT: usize = 0;
 
 // The key held.
+#[tactic(auto, using(crate::proofs::HostLaws::held_left, crate::proofs::HostLaws::held_right))]
 fn held_in(line: &[usize; 4]) -> Place
     ensures { result ≡ held_in line.now }
 {

@@ -12,6 +12,7 @@ ghost use Rattle.keys.specs.Scan.{better, least_in};
 use table::WIDTH;
 
 // Whether name a comes before name b: the first byte that differs decides, and a prefix comes first.
+#[tactic(auto, using(crate::proofs::LowerLaws::lower_is))]
 pub fn lower(a: &[u8], b: &[u8]) -> bool
     ensures { result ≡ lower a.now b.now }
 {

@@ -208,6 +208,7 @@ fn breaks_ring(count: u32, x: f64, previous: f64, first: f64) -> bool
 }
 
 // Whether a type has a house rule.
+#[tactic(auto, using(crate::proofs::HouseLaws::ruled_is))]
 pub fn is_ruled(t: u32) -> bool
     ensures { result ≡ is_ruled house_rules t }
 {

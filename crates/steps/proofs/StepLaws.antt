@@ -9,7 +9,15 @@ use lib.Ieee.Fits.{up_pos}
 use lib.Ieee.Positive.{num}
 use lib.Ieee.Scale.{finite}
 use lib.IntN.{ℤ}
+use Rattle.std.specs.Float.{float_is_finite}
 use Rattle.steps.specs.Step.{step}
+
+-- std's word for a finite float is that of the definitions
+pub finite_is : (x : Float) → float_is_finite x ≡ finite x
+unfolding float_is_finite
+finite_is nan = refl
+finite_is (inf s) = refl
+finite_is (fin s m p) = refl
 
 -- ---- a step that is finite
 pub step_finite : (x : Float) → T (finite (step x)) → (step x ≡ x) × T (finite x)

@@ -13,6 +13,7 @@ pub struct Vector {
     pub z: f64,
 }
 
+#[tactic(auto, using(crate::proofs::StepLaws::finite_is))]
 pub fn is_finite(x: f64) -> bool
     ensures { result ≡ finite x }
 {

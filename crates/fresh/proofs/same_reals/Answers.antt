@@ -2,9 +2,11 @@
 use mathlib.Core.Path.{◌≡◌, sym}
 use Prim.Native.Nat.{◌<◌}
 use Rattle.std.proofs.Common.{rules, tests}
+use native.Mathlib.Omega.{arith}
 use lib.Dec.{eqb}
 use lib.Ieee.{Float, binary64, to_bits}
 use lib.ListN.{length}
+use Rattle.std.proofs.lemmas.Grind.{common_steps}
 use Rattle.std.proofs.lemmas.Iterator.{YieldsList-from_slice}
 use Rattle.std.proofs.lemmas.Iterator.Search.{all_from_yields_List}
 use Rattle.std.specs.List.{IsSplitAt}
@@ -21,8 +23,8 @@ returns-in_default c = let short : length c.args.table.now < length c.args.fresh
 split : (c : In-Some) → IsSplitAt c.args.table.now (length c.args.fresh.now) c.in-Some.front.now c.in-Some.rest.now
 split c = search rules
 
-pub returns-then-same_bits : goal.returns-then-same_bits
-returns-then-same_bits c = bits_decide c.args.table.now c.in-Some.front.now c.in-Some.rest.now c.args.fresh.now (split (goal.at.returns-then-same_bits c).In-Some) _ c.same_bits.ensures c.if-same_bits.true _ (all_from_yields_List (λ (x : Float). eqb (to_bits binary64 x) 0) _ _ c.all.result c.all.ensures.ran (YieldsList-from_slice c.in-Some.rest.now cc) (λ x b q k. search (rules, tests)))
+pub returns-then-begins : goal.returns-then-begins
+returns-then-begins c = bits_decide c.args.table.now c.in-Some.front.now c.in-Some.rest.now c.args.fresh.now (split (goal.at.returns-then-begins c).In-Some) _ (grind (arith, common_steps)) c.if-begins.true _ (all_from_yields_List (λ (x : Float). eqb (to_bits binary64 x) 0) _ _ c.all.result c.all.ensures.ran (YieldsList-from_slice c.in-Some.rest.now cc) (λ x b q k. search (rules, tests)))
 
-pub returns-else-same_bits : goal.returns-else-same_bits
-returns-else-same_bits c = bits_differ c.args.table.now c.in-Some.front.now c.in-Some.rest.now c.args.fresh.now (split (goal.at.returns-else-same_bits c).In-Some) _ c.same_bits.ensures c.if-same_bits.false
+pub returns-else-begins : goal.returns-else-begins
+returns-else-begins c = bits_differ c.args.table.now c.in-Some.front.now c.in-Some.rest.now c.args.fresh.now (split (goal.at.returns-else-begins c).In-Some) _ (grind (arith, common_steps)) c.if-begins.false

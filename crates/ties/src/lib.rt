@@ -8,11 +8,9 @@ ghost use Rattle.ties.specs.Ties.{bound_rows, class_of, classes_to, gives_in, gi
 fn class_of(text: &[u8], records: &[u32], n: usize) -> usize
     ensures { result ≡ class_of text.now records.now n }
 {
+    let name = table::name_of(text, records, n);
     for m in 0..n {
-        if lexer::same(
-            table::name_of(text, records, m + 1),
-            table::name_of(text, records, n),
-        ) {
+        if lexer::same(table::name_of(text, records, m + 1), name) {
             return m + 1;
         }
     }

@@ -10,12 +10,12 @@ loop-m-init c = let a = c.args in (search rules, first_none a.text.now a.records
 pub returns-then-same : goal.returns-then-same
 returns-then-same c =
     let a = c.args in
-    class_found a.text.now a.records.now a.n c.loop-m.m _ _ _ c.same.ensures c.name_of.ensures c.name_of-in-loop-m.ensures c.loop-m.invariant.1 c.if-same.true c.loop-m-test.true
+    class_found a.text.now a.records.now a.n c.loop-m.m _ _ _ c.same.ensures c.name_of.ensures c.name_of-name.ensures c.loop-m.invariant.1 c.if-same.true c.loop-m-test.true
 
 pub loop-m-preserved : goal.loop-m-preserved
 loop-m-preserved c =
     let a = c.args in
-    (search rules, not_yet a.text.now a.records.now a.n c.loop-m.m _ _ _ c.same.ensures c.name_of.ensures c.name_of-in-loop-m.ensures c.loop-m.invariant.1 c.if-same.false)
+    (search rules, not_yet a.text.now a.records.now a.n c.loop-m.m _ _ _ c.same.ensures c.name_of.ensures c.name_of-name.ensures c.loop-m.invariant.1 c.if-same.false)
 
 pub returns : goal.returns
 returns c =

@@ -215,6 +215,9 @@ module _ (m n k : ℕ) (s : Bool) where
       pub by_changed : s ≡ false → step.Line (on.Left m) k is.Changed ≡ by
       by_changed h = ap (λ (b : Bool). step_in (cond b alike changed) (on.Left m) k) (sym h) ∙ by_both
 
+-- what a key comes to, in each case
+pub ruleset by_case = (by_right, by_left, by_same, by_changed)
+
 -- ---- the step to the next key: its numbers go by the names alone, what it comes to by the reals too
 
 -- of two lists with one length, both are found or neither

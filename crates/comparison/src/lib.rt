@@ -130,7 +130,7 @@ fn next_key<'a>(left: Scene<'a>, right: Scene<'a>, from: Place) -> Option<Number
 
 // What a key comes to, by its numbers and by whether its primitives are the same; the latter matters only where both scenes
 // have it. The fact is the definition's, `step_by`.
-#[tactic(auto, using(crate::proofs::StepLaws::by_right, crate::proofs::StepLaws::by_left, crate::proofs::StepLaws::by_same, crate::proofs::StepLaws::by_changed))]
+#[tactic(auto, using(crate::proofs::StepLaws::by_case))]
 fn step_of(at: Numbers, same: bool) -> Step
     requires { at.left ≡ 0 → at.right ≡ 0 → ⊥ }
     ensures { step_told (Some result) ≡ step_by at same }

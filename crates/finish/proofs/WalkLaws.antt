@@ -102,6 +102,9 @@ module _ (table : List ℕ) (n k allowance : ℕ) where
       let w = further z h a ∙ ap (λ (s : ℕ). at_type s link (k + 1) (walk_from v (allowance - (k + 1)) (k + 1) link)) (sym (type_field table link)) in
       subst (Follows v n k allowance) (sym e) (on_type (field_in table link 0) h a w)
 
+-- a link in each case
+pub ruleset follows = (follows_0, follows_late, follows_out, follows_type)
+
 -- ---- the walk
 
 pub walk_start : (v : View) (allowance n : ℕ) → walk_from v allowance 0 n ≡ walk_from v (allowance - 0) 0 n

@@ -84,7 +84,7 @@ fn link_to(kind: u32, at: usize, links: usize) -> ControlFlow<Result<Reached, St
 }
 
 // Follows the modifier link of a primitive, after so many links.
-#[tactic(auto, using(crate::proofs::WalkLaws::follows_0, crate::proofs::WalkLaws::follows_late, crate::proofs::WalkLaws::follows_out, crate::proofs::WalkLaws::follows_type))]
+#[tactic(auto, using(crate::proofs::WalkLaws::follows))]
 fn follow(
     records: &[u32],
     at: usize,

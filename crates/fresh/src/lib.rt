@@ -28,8 +28,8 @@ fn same_reals(table: &[f64], fresh: &[f64]) -> bool
     let Some((front, rest)) = table.split_at_checked(fresh.len()) else {
         return false;
     };
-    let begins = bits::same_bits(front, fresh);
-    begins && rest.iter().all(|x| bits::bits_of(*x) == 0)
+    let same_front = bits::same_bits(front, fresh);
+    same_front && rest.iter().all(|x| bits::bits_of(*x) == 0)
 }
 
 // Reads the text afresh, in a mode, at the sizes of the lent tables, and compares them: how many primitives they have, or why they are

@@ -150,9 +150,6 @@ module _ (x : List ℕ) (name : ℕ → Bytes) (w : Bytes) where
   pub at_last : (entry p v : ℕ) → 2047 ≤ p → At x name w entry p → v ≡ get_or x entry 0 → ◌≡◌ {A = Found} (record { entry = entry; number = v; looked = p + 1 }) (searched x name w)
   at_last entry p v l a e = ends entry p v a.here (sym (seek_last (λ k. stops name w (get_or x (place w k) 0)) 2047 p l) ∙ a.rest) e
 
-  pub at_lt : (entry p : ℕ) → At x name w entry p → entry < 2048
-  at_lt entry p a = let h = a.here in omega arith
-
 pub stops_else : (name : ℕ → Bytes) (w : Bytes) (v : ℕ) (b : Bool) (n : Bytes) → (v ≡ 0 → ⊥) → b ≡ same w n → n ≡ name v → b ≡ stops name w v
 stops_else name w v b n h e q = e ∙ ap (same w) q ∙ sym (stops_same name w v h)
 

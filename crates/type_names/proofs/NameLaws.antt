@@ -34,3 +34,6 @@ number_miss w (suc t) l h e =
     let n : suc t + 1 - 1 ≡ suc t = omega arith in
     let o : suc t + 1 ≡ suc (suc t) = omega arith in
     rw (n, o, m) (miss w t (omega arith) e)
+
+-- a search from number t on, in each case
+pub ruleset searched_from = (number_end, number_hit, number_miss)

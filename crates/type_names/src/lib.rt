@@ -43,7 +43,7 @@ pub fn type_name(t: u32) -> &'static [u8]
 }
 
 // The number of the type with a name, 0 for none: a search along the names.
-#[tactic(auto, using(crate::proofs::NameLaws::number_hit, crate::proofs::NameLaws::number_miss, crate::proofs::NameLaws::number_end))]
+#[tactic(auto, using(crate::proofs::NameLaws::searched_from))]
 fn searched(word: &[u8]) -> u32
     ensures { result ≡ type_number word.now }
 {

@@ -23,8 +23,8 @@ returns-in_default c = let short : length c.args.table.now < length c.args.fresh
 split : (c : In-Some) → IsSplitAt c.args.table.now (length c.args.fresh.now) c.in-Some.front.now c.in-Some.rest.now
 split c = search rules
 
-pub returns-then-begins : goal.returns-then-begins
-returns-then-begins c = bits_decide c.args.table.now c.in-Some.front.now c.in-Some.rest.now c.args.fresh.now (split (goal.at.returns-then-begins c).In-Some) _ (grind (arith, common_steps)) c.if-begins.true _ (all_from_yields_List (λ (x : Float). eqb (to_bits binary64 x) 0) _ _ c.all.result c.all.ensures.ran (YieldsList-from_slice c.in-Some.rest.now cc) (λ x b q k. search (rules, tests)))
+pub returns-then-same_front : goal.returns-then-same_front
+returns-then-same_front c = bits_decide c.args.table.now c.in-Some.front.now c.in-Some.rest.now c.args.fresh.now (split (goal.at.returns-then-same_front c).In-Some) _ (grind (arith, common_steps)) c.if-same_front.true _ (all_from_yields_List (λ (x : Float). eqb (to_bits binary64 x) 0) _ _ c.all.result c.all.ensures.ran (YieldsList-from_slice c.in-Some.rest.now cc) (λ x b q k. search (rules, tests)))
 
-pub returns-else-begins : goal.returns-else-begins
-returns-else-begins c = bits_differ c.args.table.now c.in-Some.front.now c.in-Some.rest.now c.args.fresh.now (split (goal.at.returns-else-begins c).In-Some) _ (grind (arith, common_steps)) c.if-begins.false
+pub returns-else-same_front : goal.returns-else-same_front
+returns-else-same_front c = bits_differ c.args.table.now c.in-Some.front.now c.in-Some.rest.now c.args.fresh.now (split (goal.at.returns-else-same_front c).In-Some) _ (grind (arith, common_steps)) c.if-same_front.false
